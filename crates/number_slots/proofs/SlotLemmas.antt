@@ -1,6 +1,6 @@
 -- What a slab and the slot of each number hold together.
 use Rattle.std.proofs.Common.{◌≡◌, ◌≢◌, ℕ, zero, suc, ◌<◌, arith, nat_eq, slice_set, Bool, true, false, cond, List, [], ◌∷◌, length, Option, Some, None, IsSomeAnd, refl, sym, ap, subst, ◌∙◌}
-use Rattle.std.specs.Prelude.{⊤}
+use Rattle.std.specs.Prelude.{⊤, is_some}
 use Rattle.std.specs.Ordering.{nat_cmp, is_eq, match_ordering}
 use Rattle.std.specs.declared.cmp.Ordering.{Ordering}
 use Rattle.std.specs.declared.cmp.Ordering.TheVariants.{Less, Equal, Greater}
@@ -320,6 +320,18 @@ module _ {V : Type 0} (slots : List (Option (Slot V))) (es : List (ℕ × ℕ)) 
       by : (leads : Option ℕ) → at n es ≡ leads → at n es ≡ None
       by None e = e
       by (Some key) e = absurd (filled key (slot_at slots key) (number_at slots es h.numbered n key e) (sym (ap (value_in slots) e) ∙ sym (found slots es h.numbered n) ∙ none))
+
+  -- what is held under a number is there where it leads to a slot
+  pub leads_held : (n : ℕ) → is_some (lookup (is_at (nat_cmp n)) (held_in slots es)) ≡ is_some (at n es)
+  leads_held n = ap is_some (found slots es h.numbered n) ∙ by (at n es) refl
+    where
+      filled : (slot : Option (Slot V)) → Has n slot → is_some (value_of slot) ≡ true
+      filled None has = absurd has
+      filled (Some slot) has = refl
+
+      by : (leads : Option ℕ) → at n es ≡ leads → is_some (value_in slots leads) ≡ is_some leads
+      by None e = refl
+      by (Some key) e = filled (slot_at slots key) (number_at slots es h.numbered n key e)
 
 -- ---- a value is written in its place
 

@@ -1,6 +1,6 @@
 //! What has a number, seen as a finite map.
 
-ghost use Rattle.std.specs.Prelude.{◌≡◌, OnOk, OnErr, IsOk, IfOk, IfSome, IfNone, is_some};
+ghost use Rattle.std.specs.Prelude.{◌≡◌, ◌<◌, ◌≤◌, ℕ, OnOk, OnErr, IsOk, IfOk, IfSome, IfNone, IsSome, IsSomeAnd, is_some};
 ghost use Rattle.std.specs.FinMap as map;
 ghost use Rattle.std.specs.Map.{keys_of};
 ghost use Rattle.std.specs.Option.{option_copied, option_copied_mut};
@@ -52,6 +52,16 @@ impl<V> Numbered<V> {
         ensures { IfOk result (λ numbers. numbers.items ≡ keys_of (map.entries self.now)) }
     {
         self.values.numbers(alloc)
+    }
+
+    /// The lowest number above this one, or the lowest of all. Takes no memory. Who asks for it from None on, and then each time
+    /// from the last answer on, goes through all numbers as they rise.
+    pub fn number_above(&self, below: Option<u64>) -> Option<u64>
+        ensures held { IfSome result (λ number. IsSome (map.get self.now number)) }
+        ensures above { IfSome result (λ number. IfSome below (λ below. below < number)) }
+        ensures lowest { (number : ℕ) → IfSome below (λ below. below < number) → IsSome (map.get self.now number) → IsSomeAnd result (λ lowest. lowest ≤ number) }
+    {
+        self.values.number_above(below)
     }
 
     /// Whether there is one with this number.

@@ -1,6 +1,6 @@
 //! Values under numbers, in slots.
 
-ghost use Rattle.std.specs.Prelude.{◌≡◌, [], None, true, length, OnOk, OnErr, IfErr, IfNone, IfOk, IsSomeAnd};
+ghost use Rattle.std.specs.Prelude.{◌≡◌, ◌<◌, ◌≤◌, ℕ, [], None, true, length, OnOk, OnErr, IfErr, IfNone, IfOk, IfSome, IsSome, IsSomeAnd};
 ghost use Rattle.std.specs.Borrow.{sem};
 ghost use Rattle.std.specs.BTreeMap.{is_at, insert_entry};
 ghost use Rattle.std.specs.List.Sorted.{IsStrictlySortedBy};
@@ -16,6 +16,7 @@ use slab::Slab;
 use std::alloc::{AllocError, Global};
 use std::collections::BTreeMap;
 use std::marker::Model;
+use std::ops::Bound;
 
 /// Values under their numbers. Contracts see the list of both, by rising number.
 ///
@@ -87,6 +88,23 @@ fn keys_of<V>(
     Ok(keys)
 }
 
+// The lowest key of a map that is above this one, or the lowest of all.
+fn key_above<V>(entries: &BTreeMap<u64, V>, below: Option<u64>) -> Option<u64>
+    ensures held { IfSome result (λ key. IsSome (lookup (is_at (nat_cmp key)) entries.now.entries)) }
+    ensures above { IfSome result (λ key. IfSome below (λ below. below < key)) }
+    ensures lowest { (key : ℕ) → IfSome below (λ below. below < key) → IsSome (lookup (is_at (nat_cmp key)) entries.now.entries) → IsSomeAnd result (λ lowest. lowest ≤ key) }
+{
+    let start = match below {
+        Some(below) => Bound::Excluded(below),
+        None => Bound::Unbounded,
+    };
+    let mut above = entries.range((start, Bound::Unbounded));
+    match above.next() {
+        Some((key, _)) => Some(*key),
+        None => None,
+    }
+}
+
 impl<V> Slots<V> {
     /// None. Takes no memory.
     pub fn new(alloc: Global) -> Slots<V>
@@ -115,6 +133,15 @@ impl<V> Slots<V> {
         ensures rising { IsStrictlySortedBy nat_cmp (keys_of self.now) }
     {
         keys_of(alloc, self.places.len(), &self.places)
+    }
+
+    /// The lowest number above this one, or the lowest of all. Takes no memory.
+    pub fn number_above(&self, below: Option<u64>) -> Option<u64>
+        ensures held { IfSome result (λ number. IsSome (lookup (is_at (nat_cmp number)) self.now)) }
+        ensures above { IfSome result (λ number. IfSome below (λ below. below < number)) }
+        ensures lowest { (number : ℕ) → IfSome below (λ below. below < number) → IsSome (lookup (is_at (nat_cmp number)) self.now) → IsSomeAnd result (λ lowest. lowest ≤ number) }
+    {
+        key_above(&self.places, below)
     }
 
     /// The value under this number.

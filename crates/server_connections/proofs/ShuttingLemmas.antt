@@ -1,33 +1,56 @@
 -- What a shutdown leaves of the connections: each is known as it was, and closed.
-use Rattle.std.proofs.Common.{◌≡◌, ◌≢◌, ℕ, Bool, true, false, cond, List, [], ◌∷◌, length, Option, Some, None, is_some, refl, sym, ap, subst, ◌∙◌, arith}
+use Rattle.std.proofs.Common.{◌≡◌, ◌≢◌, ℕ, Bool, true, false, cond, List, [], ◌∷◌, Option, Some, None, is_some, refl, sym, ap, subst, ◌∙◌}
 use Rattle.std.proofs.lemmas.Bool.{false≢true}
-use Rattle.std.specs.FinMap.{find, get, len, entries, get-entries, len-entries, get-insert}
+use Rattle.std.specs.FinMap.{find, get, insert, entries, get-entries, get-insert}
 use Rattle.std.specs.Map.{keys_of}
 use Rattle.std.specs.Ordering.{nat_cmp, eq_by_cmp}
 use Rattle.std.specs.Cmp.{nat_cmp_total}
-use Rattle.number_slots.proofs.NumberMaps.{same_number}
+use Rattle.number_slots.proofs.NumberMaps.{same_number, insert_same}
 use Rattle.ua_types.specs.Configuration.{Configuration}
-use Rattle.server_connections.specs.Coherent.{IsAgreedAt, AreAgreed, IsFresh, AreNumbered, number_at, is_open_at, is_open}
+use Rattle.server_connections.specs.Coherent.{IsAgreedAt, AreAgreed, IsFresh, AreNumbered, number_at, is_going_on, is_open_at, is_open, AreAllClosed}
 use Rattle.server_connections.specs.Connecting.{is_new, refusing}
-use Rattle.server_connections.specs.Shutting.{shut_by, shut_at, shut_one, all_shut, shut, ended}
+use Rattle.server_connections.specs.Shutting.{shut_by, shut_on, shut_at, shut_one, and_refusing, all_shut, shut, ended}
 use Rattle.server_connections.specs.declared.connection.Connection.{Connection}
 use Rattle.server_connections.specs.declared.connection.Phase.{Phase}
 use Rattle.server_connections.specs.declared.connection.Phase.TheVariants.{Greeting, Talking, Closed}
 use Rattle.server_connections.specs.declared.connections.Connections.{Connections}
 
+-- ---- where none is open, nothing is done
+
+module _ (connections : Connections) (conn : ℕ) (connection : Connection) where
+  closed_at : (phase : Phase) → connection.phase ≡ phase → is_going_on phase ≡ false → get connections.known conn ≡ Some connection
+      → shut_on connections conn connection (shut_by conn connection.phase) ≡ refusing connections []
+  closed_at Greeting is closed there = absurd (false≢true (sym closed))
+  closed_at (Talking s) is closed there = absurd (false≢true (sym closed))
+  closed_at Closed is closed there =
+      let same : record connection { phase = Closed } ≡ connection = ap (λ phase. record connection { phase = phase }) (sym is) in
+      ap (λ phase. shut_on connections conn connection (shut_by conn phase)) is
+      ∙ ap (λ (c : Connection). refusing (record connections { known = insert connections.known conn c }) []) same
+      ∙ ap (λ known. refusing (record connections { known = known }) []) (insert_same connections.known conn connection there)
+
+closed_stays : (connections : Connections) (conn : ℕ) → is_open connections conn ≡ false → shut_one connections conn ≡ refusing connections []
+unfolding shut_one
+closed_stays connections conn closed = by (get connections.known conn) refl closed
+  where
+    by : (o : Option Connection) → get connections.known conn ≡ o → is_open_at o ≡ false → shut_at connections conn o ≡ refusing connections []
+    by None e closed = refl
+    by (Some connection) e closed = closed_at connections conn connection connection.phase refl closed e
+
+all_closed_stay : (connections : Connections) (conns : List ℕ) → AreAllClosed connections → all_shut connections conns ≡ refusing connections []
+all_closed_stay connections [] closed = refl
+all_closed_stay connections (conn ∷ conns) closed =
+    ap (λ first. and_refusing first (λ c. all_shut c conns)) (closed_stays connections conn (closed conn))
+    ∙ all_closed_stay connections conns closed
+
+pub none_shut : (connections : Connections) → AreAllClosed connections → shut connections ≡ refusing connections []
+none_shut connections closed = all_closed_stay connections (keys_of (entries connections.known)) closed
+
+-- ---- where some are open, all are closed
+
 closes : (conn : ℕ) (phase : Phase) → (shut_by conn phase).phase ≡ Closed
 closes conn Greeting = refl
 closes conn (Talking s) = refl
 closes conn Closed = refl
-
-nothing : {A : Type 0} (xs : List A) → length xs ≡ 0 → xs ≡ []
-nothing [] e = refl
-nothing (x ∷ xs) e = grind arith
-
--- where none is known, none is shut
-pub none_shut : (connections : Connections) → len connections.known ≡ 0 → shut connections ≡ refusing connections []
-none_shut connections none =
-    ap (λ es. all_shut connections (keys_of es)) (nothing (entries connections.known) (sym (len-entries connections.known) ∙ none))
 
 unknown_stays : (b : Bool) (x : Option Connection) → x ≡ None → x ≡ cond b (ended x) x
 unknown_stays true None e = refl

@@ -62,6 +62,10 @@ is_open_at (Some connection) = is_going_on connection.phase
 abbrev pub is_open : Connections → ℕ → Bool
 is_open connections conn = is_open_at (get connections.known conn)
 
+-- none is open: what is known was closed
+abbrev pub AreAllClosed : Connections → Type 0
+AreAllClosed connections = (conn : ℕ) → is_open connections conn ≡ false
+
 -- ---- the numbers of channels
 
 -- the number of a connection's channel, once it is open

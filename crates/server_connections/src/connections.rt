@@ -1,7 +1,8 @@
 //! Who is connected.
 
-ghost use Rattle.std.specs.Prelude.{◌≡◌, ◌++◌, ℕ, [], IfOk, OnOk, IsOk};
-ghost use Rattle.std.specs.FinMap.{get, len};
+ghost use Rattle.std.specs.Prelude.{◌≡◌, ◌++◌, ℕ, [], false, IfOk, OnOk, IsOk};
+ghost use Rattle.std.specs.FinMap.{get};
+ghost use Rattle.server_connections.specs.Coherent.{is_open as is_open_spec, AreAllClosed};
 ghost use Rattle.server_connections.specs.Connecting.{no_connections, is_known as is_known_spec, is_new as is_new_spec, welcomed, refusing, turned_away, gone, taking, taking_after, taking_of, break_of};
 ghost use Rattle.server_connections.specs.Connecting as connecting;
 ghost use Rattle.server_connections.specs.Delivering.{sending, sending_after, delivered, delivery_of};
@@ -109,12 +110,37 @@ impl Connections {
         close_open(alloc, conn, &mut connection.phase, outs)
     }
 
-    // Closes all connections that are open, by rising number. Takes no memory where none is known.
+    // Whether the connection is open: known, and not closed.
+    fn is_open(&self, conn: u64) -> bool
+        ensures { result ≡ is_open_spec self.now conn }
+    {
+        match self.known.get(conn) {
+            Some(connection) => !matches!(connection.phase, Phase::Closed),
+            None => false,
+        }
+    }
+
+    // Whether a connection is open. Takes no memory.
+    fn has_open(&self) -> bool
+        ensures open { AreAllClosed self.now → result ≡ false }
+        ensures none { result ≡ false → AreAllClosed self.now }
+    {
+        let mut last = None;
+        while let Some(conn) = self.known.number_above(last) {
+            if self.is_open(conn) {
+                return true;
+            }
+            last = Some(conn);
+        }
+        false
+    }
+
+    // Closes all connections that are open, by rising number. Takes no memory where none is open.
     fn shut_each(&mut self, alloc: Global, outs: &mut ShortList<Out>) -> Result<(), AllocError>
         ensures shut { OnOk result (refusing self.new outs.new ≡ refusing_after outs.old (shut self.old)) }
-        ensures none { len self.old.known ≡ 0 → IsOk result }
+        ensures none { AreAllClosed self.old → IsOk result }
     {
-        if self.known.len() == 0 {
+        if !self.has_open() {
             return Ok(());
         }
         for conn in self.known.numbers(alloc)? {
@@ -124,11 +150,11 @@ impl Connections {
     }
 
     /// Closes all connections that are open, by rising number, as the server shuts down: each is told
-    /// `BAD_SHUTDOWN`. They stay known until they are gone. Takes no memory where none is known.
+    /// `BAD_SHUTDOWN`. They stay known until they are gone. Takes no memory where none is open, also if closed ones aren't gone yet.
     pub fn shut(&mut self, alloc: Global, outs: &mut ShortList<Out>) -> Result<(), AllocError>
         ensures shut { OnOk result (refusing self.new outs.new ≡ refusing_after outs.old (shut self.old)) }
         ensures ended { OnOk result ((conn : ℕ) → get self.new.known conn ≡ ended (get self.old.known conn)) }
-        ensures none { len self.old.known ≡ 0 → IsOk result }
+        ensures none { AreAllClosed self.old → IsOk result }
     {
         self.shut_each(alloc, outs)
     }

@@ -21,7 +21,7 @@ use Rattle.ua_monitored_items.specs.Kinds.{trigger_of}
 use Rattle.ua_monitored_items.specs.Item.{is_enabled, takes, queued, seen, reading, with_mode, disabled, modified, moded, gave, waiting_in, is_sampling, released_in, with_links}
 use Rattle.ua_monitored_items.specs.ItemTables.{NumberedItems, item_at, numbers_of, with_found, with_item, AreWithin, AreRising}
 use Rattle.ua_monitored_items.specs.Items.{ItemsState, no_items, One, Served, with_one, nothing_served, all_served, create_one, create_judged, created_by, new_item, begun, own_if, own_item, modify_one, modified_by, mode_one, moded_by, delete_one, deleted_by, Visit, visits_of, visited, sampled_items, Taking, nat_least, taken_from, with_taken, nothing_taken}
-use Rattle.ua_monitored_items.specs.Links.{Linking, unlinked, is_own, linked, linked_yet, linked_by, link, after_link}
+use Rattle.ua_monitored_items.specs.Links.{Linking, unlinked, is_own, linked, in_order, linked_yet, linked_by, link, after_link}
 use Rattle.ua_monitored_items.specs.Moves.{Move, Moved, moved, moved_on, LinksStayInside}
 use Rattle.ua_monitored_items.specs.Moves.Move.{Create, Modify, SetMode, Link, Delete, End, Show, TakeNotes}
 use Rattle.ua_monitored_items.specs.Releases.{with_release, all_released, sample_releases, modes_release, shown_one, shown}
@@ -282,8 +282,13 @@ module _ (s : ItemsState) (subscription triggering : ℕ) (P : ℕ → Type 0) (
   put_all [] ms h k = k
   put_all (n ∷ ns) ms h k = put_all ns (insert_key nat_cmp ms n) (All-tail P n ns h) (All-insert_key nat_cmp n P ms k (All-head P n ns h))
 
-  yet_linked : (item : Item) → All P (linked_yet s subscription item)
-  yet_linked item = put_all (filter (is_own s subscription) item.links) [] (own_passes item.links) (All-nil P)
+  yet_passes : (item : Item) → All P (in_order (filter (is_own s subscription) item.links))
+  yet_passes item = put_all (filter (is_own s subscription) item.links) [] (own_passes item.links) (All-nil P)
+
+  yet_linked : (item : Item) → All P item.links → (add remove : List ℕ) → All P (linked_yet s subscription item add remove)
+  yet_linked item held [] [] = held
+  yet_linked item held [] (n ∷ ns) = yet_passes item
+  yet_linked item held (n ∷ ns) remove = yet_passes item
 
   less_linked : (ns : List ℕ) (start : Linking) → All P start.numbers → All P (fold unlinked start ns).numbers
   less_linked [] start h = h
@@ -298,10 +303,11 @@ module _ (s : ItemsState) (subscription triggering : ℕ) (P : ℕ → Type 0) (
       by true false e = h
       by false c e = h
 
-  all_linked : (add remove : List ℕ) (item : Item) → All P (fold (linked s subscription triggering) (record { statuses = []; numbers = (fold unlinked (record { statuses = []; numbers = linked_yet s subscription item }) remove).numbers }) add).numbers
-  all_linked add remove item =
-      let yet : Linking = record { statuses = []; numbers = linked_yet s subscription item } in
-      more_linked add (record { statuses = []; numbers = (fold unlinked yet remove).numbers }) (less_linked remove yet (yet_linked item))
+  all_linked : (add remove : List ℕ) (item : Item) → All P item.links
+      → All P (fold (linked s subscription triggering) (record { statuses = []; numbers = (fold unlinked (record { statuses = []; numbers = linked_yet s subscription item add remove }) remove).numbers }) add).numbers
+  all_linked add remove item held =
+      let yet : Linking = record { statuses = []; numbers = linked_yet s subscription item add remove } in
+      more_linked add (record { statuses = []; numbers = (fold unlinked yet remove).numbers }) (less_linked remove yet (yet_linked item held add remove))
 
 linked_inside : (s : ItemsState) (subscription triggering : ℕ) (add remove : List ℕ) → IsSound s.made s.items → IsIn s → IsIn (after_link s (link s subscription triggering add remove))
 unfolding link
@@ -310,10 +316,11 @@ linked_inside s subscription triggering add remove h inside = by (own_item s sub
     by : (own : Option Item) → own_item s subscription triggering ≡ own → IsIn (after_link s (linked_by s subscription triggering add remove own))
     by None e = inside
     by (Some item) e =
-        let numbers = (fold (linked s subscription triggering) (record { statuses = []; numbers = (fold unlinked (record { statuses = []; numbers = linked_yet s subscription item }) remove).numbers }) add).numbers in
+        let numbers = (fold (linked s subscription triggering) (record { statuses = []; numbers = (fold unlinked (record { statuses = []; numbers = linked_yet s subscription item add remove }) remove).numbers }) add).numbers in
         let found : item_at triggering s.items ≡ Some item = own_is subscription (item_at triggering s.items) item e in
         let its : item.subscription ≡ subscription = eqb-true item.subscription subscription (own_found subscription (item_at triggering s.items) item e item found) in
-        let led : All (Leads subscription s.made s.items) numbers = all_linked s subscription triggering (Leads subscription s.made s.items) (λ n own. own_leads s subscription n h inside own) add remove item in
+        let held : All (Leads subscription s.made s.items) item.links = subst (λ (q : ℕ). All (Leads q s.made s.items) item.links) its (inside triggering item found).1 in
+        let led : All (Leads subscription s.made s.items) numbers = all_linked s subscription triggering (Leads subscription s.made s.items) (λ n own. own_leads s subscription n h inside own) add remove item held in
         subst (λ (es : NumberedItems). Inside s.made es) (sym (ap (with_found triggering (with_links numbers) s.items) found))
         (inside_set s.made triggering s.items item (with_links numbers item) found refl (subst (λ (q : ℕ). All (Leads q s.made s.items) numbers) (sym its) led) inside)
 

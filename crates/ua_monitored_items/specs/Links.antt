@@ -52,18 +52,21 @@ linked s subscription triggering before number = linked_if (may_link s subscript
 abbrev pub in_order : List ℕ → List ℕ
 in_order numbers = fold (insert_key nat_cmp) [] numbers
 
--- what is linked to an item: those of its numbers that are items of the subscription yet, since what is deleted is no more linked
-abbrev pub linked_yet : ItemsState → ℕ → Item → List ℕ
-linked_yet s subscription item = in_order (filter (is_own s subscription) item.links)
+-- what is linked to an item where a request has an entry: those of its numbers that are items of the subscription yet, since what is
+-- deleted is no more linked; without an entry all stay
+abbrev pub linked_yet : ItemsState → ℕ → Item → List ℕ → List ℕ → List ℕ
+linked_yet s subscription item [] [] = item.links
+linked_yet s subscription item add remove = in_order (filter (is_own s subscription) item.links)
 
 abbrev pub linked_by : ItemsState → ℕ → ℕ → List ℕ → List ℕ → Option Item → Result Linkage Status
 linked_by s subscription triggering add remove None = Err status.BAD_MONITORED_ITEM_ID_INVALID
 linked_by s subscription triggering add remove (Some item) =
-    let less = fold unlinked (record { statuses = []; numbers = linked_yet s subscription item }) remove in
+    let less = fold unlinked (record { statuses = []; numbers = linked_yet s subscription item add remove }) remove in
     let more = fold (linked s subscription triggering) (record { statuses = []; numbers = less.numbers }) add in
     Ok (record { added = more.statuses; removed = less.statuses; state = with_change s triggering (with_links more.numbers) })
 
--- links of a triggering item are taken away, then others are added; all is refused where that item is unknown
+-- links of a triggering item are taken away, then others are added, and without an entry nothing changes; all is refused where that
+-- item is unknown
 unfoldable pub link : ItemsState → ℕ → ℕ → List ℕ → List ℕ → Result Linkage Status
 link s subscription triggering add remove = linked_by s subscription triggering add remove (own_item s subscription triggering)
 

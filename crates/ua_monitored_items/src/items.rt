@@ -1,6 +1,6 @@
 //! The monitored items of a server.
 
-ghost use Rattle.std.specs.Prelude.{◌≡◌, ◌-◌, ◌^◌, ◌<◌, ◌≤◌, [], false, true, filter, fold, length, map, IsOk, OnOk, OnErr, IfOk, IfSome, if◌then◌else◌};
+ghost use Rattle.std.specs.Prelude.{◌≡◌, ◌-◌, ◌^◌, ◌<◌, ◌≤◌, [], false, true, filter, fold, length, map, IsOk, OnOk, OnErr, IfOk, if◌then◌else◌};
 ghost use Rattle.std.specs.BTreeSet.{insert_key};
 ghost use Rattle.std.specs.Option.{option_copied};
 ghost use Rattle.std.specs.Ordering.{nat_cmp};
@@ -635,8 +635,8 @@ impl Items {
     ///
     /// All is refused by `BAD_MONITORED_ITEM_ID_INVALID` where the subscription has no such triggering item. So is
     /// an entry of `remove` that isn't linked, and one of `add` that is no item of the subscription, or the
-    /// triggering item itself; one that is linked already is good. Want of memory is answered where the triggering item
-    /// is known, and either it has links, which are copied, or there is an entry.
+    /// triggering item itself; one that is linked already is good. Without an entry nothing changes. Want of memory is answered
+    /// where the triggering item is known and there is an entry.
     #[tactic(auto, unfolding(crate::specs::Links::link))]
     pub fn link(
         &mut self,
@@ -650,11 +650,17 @@ impl Items {
         ensures ok { OnOk result (self.new ≡ after_link self.old (link_spec self.old subscription triggering (or_none add.entry) (or_none remove.entry))) }
         ensures err { OnErr result (self.new ≡ self.old) }
         ensures good { OnErr result (IsOk (link_spec self.old subscription triggering (or_none add.entry) (or_none remove.entry))) }
-        ensures none { or_none add.entry ≡ [] → or_none remove.entry ≡ [] → IfSome (own_item self.old subscription triggering) (λ item. item.links ≡ []) → IsOk result }
+        ensures none { or_none add.entry ≡ [] → or_none remove.entry ≡ [] → IsOk result }
     {
         let Some(item) = self.own_item(subscription, triggering) else {
             return Ok(Err(Status::BAD_MONITORED_ITEM_ID_INVALID));
         };
+        if add.len() == 0 && remove.len() == 0 {
+            return Ok(Ok(Linked {
+                added: Vec::new(alloc),
+                removed: Vec::new(alloc),
+            }));
+        }
         let mut links = self.linked_yet(alloc, subscription, &item.links)?;
         let removed = unlink_all(alloc, &mut links, remove)?;
         let added = self.link_all(alloc, subscription, triggering, &mut links, add)?;

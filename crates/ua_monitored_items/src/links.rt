@@ -18,8 +18,8 @@ use ua_views::ArrayView;
 
 /// The numbers of the items that are linked to one, rising, each once.
 ///
-/// The number of an item that is deleted stays until the links of its triggering item are changed next. It
-/// leads to nothing, since no item gets it again.
+/// The number of an item that is deleted stays until the links of its triggering item are changed next, by a request with an
+/// entry. It leads to nothing, since no item gets it again.
 #[derive(Drop)]
 pub struct Links {
     // In a block of their own, from the first link on: most items have none.

@@ -1,6 +1,6 @@
 //! The answer to one read.
 
-ghost use Rattle.std.specs.Prelude.{◌≡◌, ◌<◌, ◌++◌, ℕ, List, length, Ok, IfOk, OnOk, OnErr, is_some};
+ghost use Rattle.std.specs.Prelude.{◌≡◌, ◌<◌, ◌++◌, ℕ, List, length, Ok, IfOk, IfSome, IsOk, OnOk, OnErr, is_some};
 ghost use Rattle.ua_binary.specs.DataValues.{data_value_reading, data_value_encoding, optional_reading, optional_encoding};
 ghost use Rattle.ua_binary.specs.Parts.{flag};
 ghost use Rattle.ua_binary.specs.Reading.{Extends, IsReadAgain};
@@ -8,6 +8,7 @@ ghost use Rattle.ua_binary.specs.Scalars.{moment_reading, moment_encoding};
 ghost use Rattle.ua_read_write.specs.Answers.{scalar_encoding};
 ghost use Rattle.ua_read_write.specs.Attributes.{seen, with_part_alone};
 ghost use Rattle.ua_read_write.specs.Reading.{dated as dated_spec, refused as refused_spec, source_time_of, server_time_of};
+ghost use Rattle.ua_values.specs.Plain.{IsPlainValue};
 
 use crate::attributes::Attribute;
 use crate::copied_parts::copied_part;
@@ -192,14 +193,15 @@ pub(crate) fn refused(status: Status) -> DataValue
     }
 }
 
-// An attribute, with the times that are wanted, as a data value of its own.
+// An attribute, with the times that are wanted, as a data value of its own. One that is plain takes no memory.
 pub(crate) fn copied(
     alloc: Global,
     attribute: Attribute<'_>,
     clock: Moment,
     timestamps: Timestamps,
 ) -> Result<DataValue, AllocError>
-    ensures { IfOk result (λ copy. copy ≡ dated_spec clock timestamps (seen attribute.entry)) }
+    ensures copy { IfOk result (λ copy. copy ≡ dated_spec clock timestamps (seen attribute.entry)) }
+    ensures plain { IfSome (dated_spec clock timestamps (seen attribute.entry)).value IsPlainValue → IsOk result }
 {
     let server_time = server_time(clock, timestamps);
     let value = match attribute {
@@ -261,9 +263,11 @@ impl<'a> Answer<'a> {
         }
     }
 
-    /// The answer as a data value of its own.
+    /// The answer as a data value of its own. It takes no memory where it has no value, and where its value holds no text, no bytes
+    /// and no list.
     pub fn copy(&self, alloc: Global) -> Result<DataValue, AllocError>
-        ensures { IfOk result (λ copy. copy ≡ self.now) }
+        ensures copy { IfOk result (λ copy. copy ≡ self.now) }
+        ensures plain { IfSome self.now.value IsPlainValue → IsOk result }
     {
         match self.attribute {
             Ok(attribute) => copied(alloc, attribute, self.clock, self.timestamps),

@@ -1,20 +1,22 @@
 //! Copies of parts of lists.
 
-ghost use Rattle.std.specs.Prelude.{◌≡◌, IfOk};
+ghost use Rattle.std.specs.Prelude.{◌≡◌, IfOk, IsOk};
 ghost use Rattle.ua_values.specs.Parts.{part_in, part_of};
+ghost use Rattle.ua_values.specs.Plain.{IsOne, IsPlainValue};
 
 use crate::index_range::IndexRange;
 use std::alloc::{AllocError, Global};
 use ua_types::{Copyable, Shared, SharedList, copy_all};
 use ua_values::{Content, Variant};
 
-// These elements of a list without dimensions, or all of what is no such list.
+// These elements of a list without dimensions, or all of what is no such list. What is plain takes no memory.
 fn copied_content<T: Copyable>(
     alloc: Global,
     content: &Content<T>,
     range: IndexRange,
 ) -> Result<Content<T>, AllocError>
-    ensures { IfOk result (λ part. part ≡ part_in range.first range.count content.now) }
+    ensures part { IfOk result (λ part. part ≡ part_in range.first range.count content.now) }
+    ensures plain { IsOne T.is_plain (part_in range.first range.count content.now) → IsOk result }
 {
     if let Content::Array(list) = content {
         if let Some(elements) = list.as_slice() {
@@ -26,13 +28,14 @@ fn copied_content<T: Copyable>(
     content.copy(alloc)
 }
 
-/// A copy of these elements of a list without dimensions, and of all of what is no such list.
+/// A copy of these elements of a list without dimensions, and of all of what is no such list. What is plain takes no memory.
 pub(crate) fn copied_part(
     alloc: Global,
     value: &Variant,
     range: IndexRange,
 ) -> Result<Variant, AllocError>
-    ensures { IfOk result (λ part. part ≡ part_of range.first range.count value.now) }
+    ensures part { IfOk result (λ part. part ≡ part_of range.first range.count value.now) }
+    ensures plain { IsPlainValue (part_of range.first range.count value.now) → IsOk result }
 {
     match value {
         Variant::Null => Ok(Variant::Null),

@@ -1,12 +1,13 @@
 //! Which values a Write stores, and why it refuses others.
 
 ghost use Rattle.std.specs.Option.{option_copied};
-ghost use Rattle.std.specs.Prelude.{◌≡◌, true, Some, IfOk};
+ghost use Rattle.std.specs.Prelude.{◌≡◌, true, Some, IfOk, IfSome, IsOk};
 ghost use Rattle.std.specs.Result.{result_map_both};
-ghost use Rattle.ua_read_write.specs.Judging.{new_value, IsReady};
+ghost use Rattle.ua_read_write.specs.Judging.{new_value, IsReady, IsPlainNew};
 ghost use Rattle.ua_read_write.specs.Writing.{is_writable, has_elements, whole_judged, part_judged, content_judged, node_judged};
 ghost use Rattle.ua_space.specs.Values.{variable_of, variable_takes};
 ghost use Rattle.ua_space.specs.Variables.{shape_has_rank, takes};
+ghost use Rattle.ua_values.specs.Plain.{IsPlainValue};
 
 use crate::attributes::{Attribute, attribute_at};
 use crate::index_range::{IndexRange, asked_range};
@@ -75,6 +76,7 @@ fn whole_judged<'a, 'b>(
     ensures judged { result_map_both new_value (λ code. code) result ≡ whole_judged variable.entry.now.value_rank variable.entry.now value.entry.now }
     ensures ready { IfOk result IsReady }
     ensures taken { IfOk result (λ new. takes variable.entry.now (new_value new) ≡ true) }
+    ensures plain { IsPlainValue value.entry.now → IfOk result IsPlainNew }
 {
     match variable.value_rank {
         ValueRank::Scalar => {
@@ -107,6 +109,7 @@ fn part_judged<'a, 'b>(
     ensures judged { result_map_both new_value (λ code. code) result ≡ part_judged range variable.entry.now value.entry.now variable.entry.now.value.value }
     ensures ready { IfOk result IsReady }
     ensures taken { IfOk result (λ new. takes variable.entry.now (new_value new) ≡ true) }
+    ensures plain { IsPlainValue value.entry.now → IfOk result IsPlainNew }
 {
     let Some(whole) = &variable.value.value else {
         return Err(Status::BAD_INDEX_RANGE_NO_DATA);
@@ -135,6 +138,7 @@ fn content_judged<'a, 'b>(
     ensures judged { result_map_both new_value (λ code. code) result ≡ content_judged range variable.entry.now value.entry.now }
     ensures ready { IfOk result IsReady }
     ensures taken { IfOk result (λ new. takes variable.entry.now (new_value new) ≡ true) }
+    ensures plain { IsPlainValue value.entry.now → IfOk result IsPlainNew }
 {
     match range {
         None => whole_judged(variable, value),
@@ -152,6 +156,7 @@ pub(crate) fn judged<'a, 'b>(
     ensures judged { result_map_both new_value (λ code. code) result ≡ node_judged write.entry.now (option_copied node.entry) }
     ensures ready { IfOk result IsReady }
     ensures taken { IfOk result (λ new. variable_takes (variable_of (option_copied node.entry)) (Some (new_value new)) ≡ true) }
+    ensures plain { IfSome write.entry.now.value.value IsPlainValue → IfOk result IsPlainNew }
 {
     let Some(node) = node else {
         return Err(Status::BAD_NODE_ID_UNKNOWN);
@@ -189,12 +194,13 @@ fn list_made(alloc: Global, new: NewValue<'_, '_>) -> Result<Variant, AllocError
     }
 }
 
-/// The value itself. The list as it stands is copied once.
+/// The value itself. The list as it stands is copied once. A plain value takes no memory.
 // It is inlined, and what makes a list isn't.
 #[inline(always)]
 pub(crate) fn made(alloc: Global, new: NewValue<'_, '_>) -> Result<Variant, AllocError>
     requires { IsReady new }
-    ensures { IfOk result (λ value. value ≡ new_value new.entry) }
+    ensures made { IfOk result (λ value. value ≡ new_value new.entry) }
+    ensures plain { IsPlainNew new.entry → IsOk result }
 {
     match new {
         NewValue::Whole(value) => value.to_value(alloc),

@@ -1,7 +1,7 @@
 //! The service Read.
 
 ghost use Rattle.std.specs.Option.{option_copied};
-ghost use Rattle.std.specs.Prelude.{◌≡◌, ◌++◌, Some, None, option_map, IfErr, IfOk, IsOk, OnOk};
+ghost use Rattle.std.specs.Prelude.{◌≡◌, ◌++◌, Some, None, option_map, IfErr, IfOk, IfSome, IsOk, OnOk};
 ghost use Rattle.std.specs.Result.{result_map_both};
 ghost use Rattle.ua_binary.specs.Arrays.{array_encoding};
 ghost use Rattle.ua_binary.specs.DataValues.{data_value_encoding};
@@ -12,6 +12,7 @@ ghost use Rattle.ua_read_write.specs.Attributes.{seen, IsWhole};
 ghost use Rattle.ua_read_write.specs.Reading.{is_readable, readable, readable_of, refusal_in, attribute_read, ranged, told_of, read_of, all_read};
 ghost use Rattle.ua_read_write.specs.declared.timestamps.Timestamps.TheVariants as timestamp_choices;
 ghost use Rattle.ua_types.specs.Given.{is_given};
+ghost use Rattle.ua_values.specs.Plain.{IsPlainValue};
 ghost use Rattle.ua_views.specs.Views.{or_none};
 
 use crate::answer::{Answer, copied, refused};
@@ -150,7 +151,7 @@ pub fn refusal(space: &Space, request: &ReadValueIdView<'_>) -> Option<Status>
 }
 
 /// What [`read`] answers for a whole attribute with both times, as a data value of its own. A refusal takes no
-/// memory.
+/// memory, nor does a value that holds no text, no bytes and no list.
 #[tactic(auto, unfolding(crate::specs::Reading::readable))]
 pub fn sample(
     alloc: Global,
@@ -161,6 +162,7 @@ pub fn sample(
 ) -> Result<DataValue, AllocError>
     ensures value { IfOk result (λ value. value ≡ attribute_read space.now.nodes clock timestamp_choices.Both node_id.now attribute_id None) }
     ensures refused { IfErr (readable space.now.nodes node_id.now attribute_id None) (λ code. IsOk result) }
+    ensures plain { IfSome (attribute_read space.now.nodes clock timestamp_choices.Both node_id.now attribute_id None).value IsPlainValue → IsOk result }
 {
     match readable(space.node(node_id), attribute_id, None) {
         Ok(attribute) => copied(alloc, attribute, clock, Timestamps::Both),

@@ -1,12 +1,13 @@
 //! The service Write.
 
-ghost use Rattle.std.specs.Prelude.{◌≡◌, ◌⊎◌, ◌++◌, true, length, Some, Ok, Err, IfErr, IfOk, IsOk, OnOk, OnErr};
+ghost use Rattle.std.specs.Prelude.{◌≡◌, ◌≢◌, ◌⊎◌, ◌++◌, true, length, Some, Ok, Err, IfErr, IfOk, IfSome, IsOk, OnOk, OnErr};
 ghost use Rattle.std.specs.Result.{result_map_both};
 ghost use Rattle.ua_read_write.specs.Writing.{stored_of, judged, change_of, accepted_of, status_of, nodes_after, changes_of, write_of, WroteSome};
 ghost use Rattle.ua_space.specs.NodePlaces.{place_of};
 ghost use Rattle.ua_space.specs.Values.{takes_at};
 ghost use Rattle.ua_types.specs.Refusals.{GivesOrRefuses};
 ghost use Rattle.ua_types.specs.declared.refusal.Refusal.TheVariants.{Memory};
+ghost use Rattle.ua_values.specs.Plain.{IsPlainValue};
 ghost use Rattle.ua_views.specs.Views.{or_none};
 
 use crate::judging::{judged, made};
@@ -60,8 +61,8 @@ pub struct AcceptedValue {
 /// A value of a Write as it is stored at this clock, with the place of the variable that gets it. Its node is searched for once.
 ///
 /// It is judged where it stands in the request's bytes, and refused as [`write`] says. Only what is accepted is copied,
-/// once, so a refusal takes no memory; where an index range is given, so is the list as it stands, which the value has
-/// whole. It is never refused as exhausted.
+/// once, so a refusal takes no memory, nor does a value that holds no text, no bytes and no list; where an index range is
+/// given, the list as it stands is copied too, which the value has whole. It is never refused as exhausted.
 // Inlined into the loop over a request's list: a call for each element costs more than it does.
 #[tactic(auto, unfolding(crate::specs::Writing::judged))]
 #[inline(always)]
@@ -74,6 +75,7 @@ pub fn accepted<'a>(
 ) -> Result<AcceptedValue, Refusal>
     ensures answer { GivesOrRefuses (result_map_both (change_of write.now) (λ refusal. refusal) result) (accepted_of clock write.now (judged space.now.nodes write.now)) }
     ensures memory { result ≡ Err Memory → IsOk (judged space.now.nodes write.now) }
+    ensures plain { IfSome write.now.value.value IsPlainValue → result ≢ Err Memory }
     ensures place { IfOk result (λ accepted. place_of write.now.node_id space.now.nodes ≡ Some accepted.place) }
     ensures taken { IfOk result (λ accepted. takes_at write.now.node_id accepted.value space.now.nodes ≡ true) }
 {

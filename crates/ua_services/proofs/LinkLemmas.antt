@@ -27,7 +27,7 @@ module _ (s : ItemsState) (subscription triggering : ℕ) where
   by_item : (add remove : List ℕ) (answer : Linked) (item : Option Item) → IsAnswer (Ok answer) (linked_by s subscription triggering add remove item) → (length answer.added.items ≡ length add) × (length answer.removed.items ≡ length remove)
   by_item add remove answer None h = absurd h
   by_item add remove answer (Some item) h =
-      let start : Linking = record { statuses = []; numbers = linked_yet s subscription item } in
+      let start : Linking = record { statuses = []; numbers = linked_yet s subscription item add remove } in
       let less = fold unlinked start remove in
       let added = ap length h.0 in
       let removed = ap length h.1 in
