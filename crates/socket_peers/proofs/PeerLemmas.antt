@@ -122,7 +122,7 @@ module _ {S : Type 0} (remaining contents : S → Option (List ℕ)) (calls : S 
     gone = refl;
     awake = refl;
     served = refl;
-    origin = refl;
+    address = refl;
     failed = λ e. e;
     full = λ e. e;
     tallies = tallies_none p (calls p.stream);
@@ -147,7 +147,7 @@ module _ {S : Type 0} (remaining contents : S → Option (List ℕ)) (calls : S 
         gone = refl;
         awake = refl;
         served = refl;
-        origin = refl;
+        address = refl;
         failed = λ h. refl;
         full = λ h. h;
         tallies = tallies_failed old stream (calls old.stream) (calls stream) before (subst (λ (w : Missed). OneMissed w (calls old.stream) (calls stream)) failed one);
@@ -173,7 +173,7 @@ module _ {S : Type 0} (remaining contents : S → Option (List ℕ)) (calls : S 
         gone = q.gone ∙ p.gone;
         awake = q.awake ∙ p.awake;
         served = q.served ∙ p.served;
-        origin = q.origin ∙ p.origin;
+        address = q.address ∙ p.address;
         failed = λ e. q.failed (p.failed e);
         full = λ e. q.full (p.full e);
         tallies = tallies_trans a b c n (calls a.stream) (calls b.stream) (calls c.stream) p.tallies q.tallies;

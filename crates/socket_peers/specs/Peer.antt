@@ -25,7 +25,7 @@ pub record PeerState (S : Type 0) : Type 0 where
   pub is_full : Bool
   pub is_awake : Bool
   pub served : Moment
-  pub origin : ℕ
+  pub address : ℕ
 
 -- nothing is read from a socket that is owed more than this, unless it was reported as ending
 abbrev pub most_owed : ℕ
@@ -56,7 +56,7 @@ module _ {S : Type 0} where
   peer_code stream =
       code_by (S × (List ℕ × (Bool × (Bool × (Bool × (Bool × (Bool × (Bool × (Bool × (ℤ × ℕ))))))))))
       (coded× stream (coded× (coded_list coded_ℕ) (coded× coded_bool (coded× coded_bool (coded× coded_bool (coded× coded_bool (coded× coded_bool (coded× coded_bool (coded× coded_bool (coded× coded_ℤ coded_ℕ))))))))))
-      (λ p. (p.stream, (p.owed, (p.is_closing, (p.is_ending, (p.has_ended, (p.has_failed, (p.is_gone, (p.is_full, (p.is_awake, (p.served.0, p.origin)))))))))))
+      (λ p. (p.stream, (p.owed, (p.is_closing, (p.is_ending, (p.has_ended, (p.has_failed, (p.is_gone, (p.is_full, (p.is_awake, (p.served.0, p.address)))))))))))
       (λ t. record {
         stream = t.0;
         owed = t.1.0;
@@ -68,12 +68,12 @@ module _ {S : Type 0} where
         is_full = t.1.1.1.1.1.1.1.0;
         is_awake = t.1.1.1.1.1.1.1.1.0;
         served = record { 0 = t.1.1.1.1.1.1.1.1.1.0 };
-        origin = t.1.1.1.1.1.1.1.1.1.1;
+        address = t.1.1.1.1.1.1.1.1.1.1;
       })
       (λ _. refl)
 
   abbrev pub fresh : ℕ → Moment → S → PeerState S
-  fresh origin now stream = record {
+  fresh address now stream = record {
     stream = stream;
     owed = [];
     is_closing = false;
@@ -84,7 +84,7 @@ module _ {S : Type 0} where
     is_full = false;
     is_awake = false;
     served = now;
-    origin = origin;
+    address = address;
   }
 
   -- behind all that it is owed already, from this moment on
@@ -210,7 +210,7 @@ module _ {S : Type 0} where
       pub gone : new.is_gone ≡ old.is_gone
       pub awake : new.is_awake ≡ old.is_awake
       pub served : new.served ≡ old.served
-      pub origin : new.origin ≡ old.origin
+      pub address : new.address ≡ old.address
       pub failed : old.has_failed ≡ true → new.has_failed ≡ true
       pub full : old.is_full ≡ true → new.is_full ≡ true
       pub tallies : Tallies old new interrupted (calls old.stream) (calls new.stream)

@@ -88,7 +88,7 @@ module _ {S : Type 0} where
 
   abbrev pub without_by : PeersState S → ℕ → Option (PeerState S) → PeersState S
   without_by p number None = p
-  without_by p number (Some peer) = record p { connected = remove p.connected number; tally = one_less p.tally peer.origin }
+  without_by p number (Some peer) = record p { connected = remove p.connected number; tally = one_less p.tally peer.address }
 
   -- this socket is let go of, and counts for its address no more
   abbrev pub without : PeersState S → ℕ → PeersState S
@@ -96,15 +96,15 @@ module _ {S : Type 0} where
 
   -- a new socket gets the next number, and counts for its address
   abbrev pub with_joined : PeersState S → ℕ → S → PeersState S
-  with_joined p origin stream = record p {
-    connected = insert p.connected (p.last + 1) (fresh origin p.clock stream);
+  with_joined p address stream = record p {
+    connected = insert p.connected (p.last + 1) (fresh address p.clock stream);
     last = p.last + 1;
-    tally = one_more p.tally origin;
+    tally = one_more p.tally address;
   }
 
   -- there is a bound for the sockets of an address, and there are so many of this one
   abbrev pub is_crowded : PeersState S → ℕ → Bool
-  is_crowded p origin = nat_lt 0 p.limits.per_address && not (nat_lt (count_of p.tally origin) p.limits.per_address)
+  is_crowded p address = nat_lt 0 p.limits.per_address && not (nat_lt (count_of p.tally address) p.limits.per_address)
 
   -- a socket that is done with is let go of, and no other
   abbrev pub LetsGo : ℕ → PeersState S → PeersState S → Bool → Type 0

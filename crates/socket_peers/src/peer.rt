@@ -89,8 +89,8 @@ pub struct Peer<S> {
     is_awake: bool,
     // The moment at which it was last owed something; when it was taken in, at first.
     served: Moment,
-    // The number of the address of its client.
-    origin: u128,
+    // The bits of its client's IP address.
+    address: u128,
     // How its connection ends, as far as that is known. Contracts see nothing of it.
     end: End,
 }
@@ -113,7 +113,7 @@ impl<S> Model for Peer<S> {
       is_full = p.is_full;
       is_awake = p.is_awake;
       served = p.served;
-      origin = p.origin;
+      address = p.address;
     } };
 }
 
@@ -154,8 +154,8 @@ fn front<'a>(owed: &'a BytesQueue, joint: &'a mut Vec<u8>) -> &'a [u8]
 
 impl<S> Peer<S> {
     /// A socket that is owed nothing, of a client at the address of this number, taken in at this moment.
-    pub fn new(alloc: Global, stream: S, origin: u128, now: Moment) -> Peer<S>
-        ensures { result ≡ fresh origin now stream }
+    pub fn new(alloc: Global, stream: S, address: u128, now: Moment) -> Peer<S>
+        ensures { result ≡ fresh address now stream }
     {
         Peer {
             stream,
@@ -168,7 +168,7 @@ impl<S> Peer<S> {
             is_full: false,
             is_awake: false,
             served: now,
-            origin,
+            address,
             end: End::Server(None),
         }
     }
@@ -188,7 +188,7 @@ impl<S> Peer<S> {
             is_full: _,
             is_awake: _,
             served: _,
-            origin: _,
+            address: _,
             end: _,
         } = self;
         stream
@@ -252,11 +252,11 @@ impl<S> Peer<S> {
         self.is_gone
     }
 
-    /// The number of the address of its client.
-    pub fn origin(&self) -> u128
-        ensures { result ≡ self.now.origin }
+    /// The bits of its client's IP address.
+    pub fn address(&self) -> u128
+        ensures { result ≡ self.now.address }
     {
-        self.origin
+        self.address
     }
 
     /// How its connection ended, once it has.

@@ -129,11 +129,11 @@ impl<S> Peers<S> {
         self.clock = now;
     }
 
-    /// Whether there are as many sockets of the address of this number as may be.
-    pub fn is_crowded(&self, origin: u128) -> bool
-        ensures { result ≡ is_crowded_spec self.now origin }
+    /// Whether there are as many sockets of the address of these bits as may be.
+    pub fn is_crowded(&self, address: u128) -> bool
+        ensures { result ≡ is_crowded_spec self.now address }
     {
-        self.limits.per_address > 0 && self.tally.of(origin) >= self.limits.per_address
+        self.limits.per_address > 0 && self.tally.of(address) >= self.limits.per_address
     }
 
     /// Whether silent sockets are to be looked for now: where that was done last a second ago or more, or by a clock that was set back
@@ -209,21 +209,21 @@ fn wake_if<S>(
 }
 
 impl<S: Drop> Peers<S> {
-    /// Takes in a socket under the next number, of a client at the address of a number of 128 bits.
+    /// Takes in a socket under the next number, of a client at the IP address of these bits.
     pub fn admit(
         &mut self,
         alloc: Global,
         number: u64,
-        origin: u128,
+        address: u128,
         stream: S,
     ) -> Result<(), AllocError>
         requires { number ≡ self.old.last + 1 }
-        ensures { OnOk result (self.new ≡ with_joined self.old origin stream) }
+        ensures { OnOk result (self.new ≡ with_joined self.old address stream) }
     {
         self.last = number;
-        self.tally.add(origin)?;
+        self.tally.add(address)?;
         self.connected
-            .insert(number, Peer::new(alloc, stream, origin, self.clock))
+            .insert(number, Peer::new(alloc, stream, address, self.clock))
     }
 
     // Lets go of a socket.
@@ -231,7 +231,7 @@ impl<S: Drop> Peers<S> {
         ensures { self.new ≡ without self.old number }
     {
         if let Some(peer) = self.connected.remove(number) {
-            self.tally.subtract(peer.origin());
+            self.tally.subtract(peer.address());
         }
     }
 

@@ -30,7 +30,7 @@ use Rattle.socket_server.specs.Serving.{Scene, scene, IsNextKey, IsQuiet, Happen
 ticks_append : (xs ys : List Happening) → ticks (xs ++ ys) ≡ ticks xs + ticks ys
 ticks_append [] ys = omega arith
 ticks_append (Passes now ∷ xs) ys = let e = ticks_append xs ys in omega arith
-ticks_append (Connects origin key ∷ xs) ys = ticks_append xs ys
+ticks_append (Connects address key ∷ xs) ys = ticks_append xs ys
 ticks_append (Sweeps ∷ xs) ys = ticks_append xs ys
 ticks_append (Expires conn ∷ xs) ys = ticks_append xs ys
 ticks_append (Reports conn readiness ∷ xs) ys = ticks_append xs ys
@@ -109,8 +109,8 @@ module _ {S : Type 0} (remaining contents : S → Option (List ℕ)) (calls : S 
   quiet : (act : Happening) (a c : Scene S) → ticks (act ∷ []) ≡ 0 → Does remaining contents calls text act a c → Goes remaining contents calls text 0 a c
   quiet act a c none does = (act ∷ [], none, (c, does, refl))
 
-  pub connects : (origin : ℕ) (key : List ℕ) (a c : Scene S) → Does remaining contents calls text (Connects origin key) a c → Goes remaining contents calls text 0 a c
-  connects origin key a c does = quiet (Connects origin key) a c refl does
+  pub connects : (address : ℕ) (key : List ℕ) (a c : Scene S) → Does remaining contents calls text (Connects address key) a c → Goes remaining contents calls text 0 a c
+  connects address key a c does = quiet (Connects address key) a c refl does
 
   hears : (conn : ℕ) (h : Heard) (is : Bool) (a c : Scene S) → is_piece h ≡ is → Heeds remaining contents calls text conn h is a c → Goes remaining contents calls text 0 a c
   hears conn h true a c is (piece, p, reads, takes) = quiet (Hears conn piece) a c refl (h, is, p, reads, takes)
@@ -186,18 +186,18 @@ module _ {S : Type 0} (remaining contents : S → Option (List ℕ)) (calls : S 
   abbrev Handed : Event → Scene S → Scene S → {X : Type 0} → Result X ServeFault → Type 0
   Handed event a c r = MatchResult r (λ _. Takes text event a c) (Fails text event a c)
 
-  pub connect_does : {X : Type 0} (number origin : ℕ) (key : List ℕ) (left : Stream) (stream : S) (a : Scene S) (p : PeersState S) (c : Scene S) (r : Result X ServeFault) → number ≡ a.peers.last + 1
-      → is_crowded a.peers origin ≡ false → p ≡ with_joined a.peers origin stream → IsNextKey a.keys left key → Handed (Opened number key) (record a { keys = left; peers = p }) c r
-      → MatchResult r (λ _. Does remaining contents calls text (Connects origin key) a c) (Stops remaining contents calls text a c)
-  connect_does number origin key left stream a p c (Ok x) n room j drawn h = (
+  pub connect_does : {X : Type 0} (number address : ℕ) (key : List ℕ) (left : Stream) (stream : S) (a : Scene S) (p : PeersState S) (c : Scene S) (r : Result X ServeFault) → number ≡ a.peers.last + 1
+      → is_crowded a.peers address ≡ false → p ≡ with_joined a.peers address stream → IsNextKey a.keys left key → Handed (Opened number key) (record a { keys = left; peers = p }) c r
+      → MatchResult r (λ _. Does remaining contents calls text (Connects address key) a c) (Stops remaining contents calls text a c)
+  connect_does number address key left stream a p c (Ok x) n room j drawn h = (
     stream,
     left,
     drawn,
     room,
-    subst (λ k. Takes text (Opened k key) (record a { keys = left; peers = with_joined a.peers origin stream }) c) n
+    subst (λ k. Takes text (Opened k key) (record a { keys = left; peers = with_joined a.peers address stream }) c) n
         (subst (λ q. Takes text (Opened number key) (record a { keys = left; peers = q }) c) j h),
   )
-  connect_does number origin key left stream a p c (Err fault) n room j drawn h = stops_at (Opened number key) a c fault (fails_from (Opened number key) a c p left fault refl h)
+  connect_does number address key left stream a p c (Err fault) n room j drawn h = stops_at (Opened number key) a c fault (fails_from (Opened number key) a c p left fault refl h)
 
   -- the sockets and the server are told the time
   pub time_told : {X : Type 0} (now : Moment) (a : Scene S) (p : PeersState S) (c : Scene S) (r : Result X ServeFault) → p ≡ at_time now a.peers
@@ -366,12 +366,12 @@ module _ {S : Type 0} (remaining contents : S → Option (List ℕ)) (calls : S 
 
   -- ---- those who connect
 
-  takes_in_goes : (origin : ℕ) (a c : Scene S) → TakesIn remaining contents calls text origin a c → Goes remaining contents calls text 0 a c
-  takes_in_goes origin a c (key, opened, does, attends) = goes_on a opened c (connects origin key a opened does) (attends_go (a.peers.last + 1) opened c attends)
+  takes_in_goes : (address : ℕ) (a c : Scene S) → TakesIn remaining contents calls text address a c → Goes remaining contents calls text 0 a c
+  takes_in_goes address a c (key, opened, does, attends) = goes_on a opened c (connects address key a opened does) (attends_go (a.peers.last + 1) opened c attends)
 
   many_taken_in_go : (count : ℕ) (a c : Scene S) → TakesInMany remaining contents calls text count a c → Goes remaining contents calls text 0 a c
   many_taken_in_go zero a c e = goes_same a c e
-  many_taken_in_go (suc count) a c (mid, origin, many, one) = goes_on a mid c (many_taken_in_go count a mid many) (takes_in_goes origin mid c one)
+  many_taken_in_go (suc count) a c (mid, address, many, one) = goes_on a mid c (many_taken_in_go count a mid many) (takes_in_goes address mid c one)
 
   -- at most so many
   abbrev pub TakesInUpTo : ℕ → Scene S → Scene S → Type 0
@@ -383,27 +383,27 @@ module _ {S : Type 0} (remaining contents : S → Option (List ℕ)) (calls : S 
   pub taken_in_go : (most : ℕ) (a c : Scene S) → TakesInUpTo most a c → Goes remaining contents calls text 0 a c
   taken_in_go most a c (count, few, many) = many_taken_in_go count a c many
 
-  pub next_taken_in : (most origin : ℕ) (a b c : Scene S) → TakesInUpTo most a b → MayTakeIn remaining contents calls text origin b c → TakesInUpTo (most + 1) a c
-  next_taken_in most origin a b c (count, few, many) (inl e) = (count, omega arith, subst (λ (s : Scene S). TakesInMany remaining contents calls text count a s) (sym e) many)
-  next_taken_in most origin a b c (count, few, many) (inr one) = (suc count, omega arith, (b, origin, many, one))
+  pub next_taken_in : (most address : ℕ) (a b c : Scene S) → TakesInUpTo most a b → MayTakeIn remaining contents calls text address b c → TakesInUpTo (most + 1) a c
+  next_taken_in most address a b c (count, few, many) (inl e) = (count, omega arith, subst (λ (s : Scene S). TakesInMany remaining contents calls text count a s) (sym e) many)
+  next_taken_in most address a b c (count, few, many) (inr one) = (suc count, omega arith, (b, address, many, one))
 
   pub fewer_taken_in : (most more : ℕ) (a b c : Scene S) → most ≤ more → c ≡ b → TakesInUpTo most a b → TakesInUpTo more a c
   fewer_taken_in most more a b c le e (count, few, many) = (count, omega arith, subst (λ (s : Scene S). TakesInMany remaining contents calls text count a s) (sym e) many)
 
   -- a socket that has connected is attended to
-  pub joined : {X : Type 0} (number origin : ℕ) (key : List ℕ) (a opened c : Scene S) (r : Result X ServeFault) → number ≡ a.peers.last + 1
-      → Does remaining contents calls text (Connects origin key) a opened
+  pub joined : {X : Type 0} (number address : ℕ) (key : List ℕ) (a opened c : Scene S) (r : Result X ServeFault) → number ≡ a.peers.last + 1
+      → Does remaining contents calls text (Connects address key) a opened
       → MatchResult r (λ _. Attends remaining contents calls text number opened c) (Stops remaining contents calls text opened c)
-      → MatchResult r (λ _. TakesIn remaining contents calls text origin a c) (Stops remaining contents calls text a c)
-  joined number origin key a opened c (Ok x) n does attends = (key, opened, does, subst (λ k. Attends remaining contents calls text k opened c) n attends)
-  joined number origin key a opened c (Err fault) n does stops = stops_after 0 a opened c fault (connects origin key a opened does) stops
+      → MatchResult r (λ _. TakesIn remaining contents calls text address a c) (Stops remaining contents calls text a c)
+  joined number address key a opened c (Ok x) n does attends = (key, opened, does, subst (λ k. Attends remaining contents calls text k opened c) n attends)
+  joined number address key a opened c (Err fault) n does stops = stops_after 0 a opened c fault (connects address key a opened does) stops
 
   -- it is taken in, or what it is turned away for
-  pub may_be_joined : {X : Type 0} (origin : ℕ) (a c : Scene S) (r : Result X ServeFault)
-      → MatchResult r (λ _. TakesIn remaining contents calls text origin a c) (Stops remaining contents calls text a c)
-      → MatchResult r (λ _. MayTakeIn remaining contents calls text origin a c) (Stops remaining contents calls text a c)
-  may_be_joined origin a c (Ok x) h = inr h
-  may_be_joined origin a c (Err fault) h = h
+  pub may_be_joined : {X : Type 0} (address : ℕ) (a c : Scene S) (r : Result X ServeFault)
+      → MatchResult r (λ _. TakesIn remaining contents calls text address a c) (Stops remaining contents calls text a c)
+      → MatchResult r (λ _. MayTakeIn remaining contents calls text address a c) (Stops remaining contents calls text a c)
+  may_be_joined address a c (Ok x) h = inr h
+  may_be_joined address a c (Err fault) h = h
 
   -- ---- silent sockets
 
@@ -589,7 +589,7 @@ module _ {S : Type 0} (remaining contents : S → Option (List ℕ)) (calls : S 
   expired_writer false conn a b (x, steps, owed, events, puts, keys) = puts.writer
 
   does_writer : (act : Happening) (a b : Scene S) → Does remaining contents calls text act a b → b.output.writer ≡ a.output.writer
-  does_writer (Connects origin key) a b (stream, left, drawn, room, (x, steps, owed, events, puts, keys)) = puts.writer
+  does_writer (Connects address key) a b (stream, left, drawn, room, (x, steps, owed, events, puts, keys)) = puts.writer
   does_writer (Reports conn readiness) a b (e, (server, events, output, keys)) = ap (λ (t : Output). t.writer) output
   does_writer (Gathers conns) a b (taken, e, (server, events, output, keys)) = ap (λ (t : Output). t.writer) output
   does_writer (Looks conn) a b (none, looked, (server, events, output, keys)) = ap (λ (t : Output). t.writer) output

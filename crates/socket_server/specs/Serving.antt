@@ -84,9 +84,9 @@ module _ {S : Type 0} (remaining contents : S → Option (List ℕ)) (calls : S 
   -- What is put out is of events alone. Nothing goes out before what was stored is kept: sockets take what they are owed only while
   -- nothing waits to be kept
   abbrev pub Does : Happening → Scene S → Scene S → Type 0
-  Does (Connects origin key) old new =
-      (stream : S) × (left : Stream) × IsNextKey old.keys left key × (is_crowded old.peers origin ≡ false)
-      × Takes text (Opened (old.peers.last + 1) key) (record old { keys = left; peers = with_joined old.peers origin stream }) new
+  Does (Connects address key) old new =
+      (stream : S) × (left : Stream) × IsNextKey old.keys left key × (is_crowded old.peers address ≡ false)
+      × Takes text (Opened (old.peers.last + 1) key) (record old { keys = left; peers = with_joined old.peers address stream }) new
   Does (Reports conn readiness) old new = (new.peers ≡ reported old.peers conn readiness) × IsQuiet old new
   Does (Gathers conns) old new = (conns ≡ old.peers.awake) × (new.peers ≡ record old.peers { awake = [] }) × IsQuiet old new
   Does (Looks conn) old new =
@@ -273,17 +273,17 @@ module _ {S : Type 0} (remaining contents : S → Option (List ℕ)) (calls : S 
 
   -- a socket of this address has connected, and is attended to at once
   abbrev pub TakesIn : ℕ → Scene S → Scene S → Type 0
-  TakesIn origin old new =
-      (key : List ℕ) × (opened : Scene S) × Does remaining contents calls text (Connects origin key) old opened × Attends (old.peers.last + 1) opened new
+  TakesIn address old new =
+      (key : List ℕ) × (opened : Scene S) × Does remaining contents calls text (Connects address key) old opened × Attends (old.peers.last + 1) opened new
 
   -- or it is turned away, and nothing changes
   abbrev pub MayTakeIn : ℕ → Scene S → Scene S → Type 0
-  MayTakeIn origin old new = (new ≡ old) ⊎ TakesIn origin old new
+  MayTakeIn address old new = (new ≡ old) ⊎ TakesIn address old new
 
   -- so many have connected
   abbrev pub TakesInMany : ℕ → Scene S → Scene S → Type 0
   TakesInMany zero old new = new ≡ old
-  TakesInMany (suc count) old new = (mid : Scene S) × (origin : ℕ) × TakesInMany count old mid × TakesIn origin mid new
+  TakesInMany (suc count) old new = (mid : Scene S) × (address : ℕ) × TakesInMany count old mid × TakesIn address mid new
 
   -- who has connected is taken in, at most 256
   abbrev pub TakesInSome : Scene S → Scene S → Type 0

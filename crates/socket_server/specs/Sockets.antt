@@ -54,11 +54,11 @@ IsUnserved address port limits sockets = sockets ≡ unserved address port limit
 abbrev pub unlimited : Limits
 unlimited = record { idle = 0; per_address = 0 }
 
--- The number of an address: its 128 bits, of which one of 32 bits has the last 32, behind ::ffff:0:0, as where a socket of the longer form
+-- The bits of an address, 128 of them, of which one of 32 bits has the last 32, behind ::ffff:0:0, as where a socket of the longer form
 -- takes it in
-abbrev pub origin_of : IpAddr → ℕ
-origin_of (V4 address) = 281470681743360 + ipv4_bits address
-origin_of (V6 address) = ipv6_bits address
+abbrev pub address_bits : IpAddr → ℕ
+address_bits (V4 address) = 281470681743360 + ipv4_bits address
+address_bits (V6 address) = ipv6_bits address
 
 -- 127.0.0.1
 abbrev pub IsLocal : IpAddr → Type 0

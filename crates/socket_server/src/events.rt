@@ -35,8 +35,8 @@ pub(crate) struct Arrival {
     pub(crate) number: u64,
     /// Where its peer is.
     pub(crate) address: SocketAddr,
-    /// The number of that address, without the port.
-    pub(crate) origin: u128,
+    /// The bits of that address, without the port.
+    pub(crate) address_bits: u128,
     pub(crate) key: [u8; 32],
 }
 
@@ -133,14 +133,14 @@ fn admit<S: Socket + Drop, K: Keeper, W: Observer>(
     stream: S,
 ) -> Result<(), ServeFault>
     requires number { arrival.number ≡ peers.old.last + 1 }
-    requires room { is_crowded peers.old arrival.origin ≡ false }
+    requires room { is_crowded peers.old arrival.address_bits ≡ false }
     ensures { (keys : Stream) → (left : Stream) → IsNextKey keys left arrival.key →
         let old = scene keys (keeping K.kept server.old) peers.old events.old (W.output observer.old) in
         let new = scene left (keeping K.kept server.new) peers.new events.new (W.output observer.new) in
-        MatchResult result (λ _. Does S.remaining S.contents S.calls W.text (Connects arrival.origin arrival.key) old new) (Stops S.remaining S.contents S.calls W.text old new) }
+        MatchResult result (λ _. Does S.remaining S.contents S.calls W.text (Connects arrival.address_bits arrival.key) old new) (Stops S.remaining S.contents S.calls W.text old new) }
 {
     if peers
-        .admit(alloc, arrival.number, arrival.origin, stream)
+        .admit(alloc, arrival.number, arrival.address_bits, stream)
         .is_err()
     {
         return Err(ServeFault::Memory);
@@ -460,11 +460,11 @@ pub(crate) fn join_socket<S: Socket + Drop, K: Keeper, W: Observer>(
     stream: S,
 ) -> Result<(), ServeFault>
     requires number { arrival.number ≡ peers.old.last + 1 }
-    requires room { is_crowded peers.old arrival.origin ≡ false }
+    requires room { is_crowded peers.old arrival.address_bits ≡ false }
     ensures { (keys : Stream) → (left : Stream) → IsNextKey keys left arrival.key →
         let old = scene keys (keeping K.kept server.old) peers.old events.old (W.output observer.old) in
         let new = scene left (keeping K.kept server.new) peers.new events.new (W.output observer.new) in
-        MatchResult result (λ _. TakesIn S.remaining S.contents S.calls W.text arrival.origin old new) (Stops S.remaining S.contents S.calls W.text old new) }
+        MatchResult result (λ _. TakesIn S.remaining S.contents S.calls W.text arrival.address_bits old new) (Stops S.remaining S.contents S.calls W.text old new) }
 {
     let number = arrival.number;
     match admit(alloc, peers, events, server, observer, arrival, stream) {

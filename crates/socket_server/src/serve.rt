@@ -9,7 +9,7 @@ ghost use Rattle.mio.specs.Events.{items};
 ghost use Rattle.socket_server.specs.Keeping.{keeping};
 ghost use Rattle.server_core.specs.declared.event.Event.TheVariants as ending;
 ghost use Rattle.socket_server.specs.Moments.{moment_since_1970};
-ghost use Rattle.socket_server.specs.Sockets.{IsUnserved, IsLocal, unlimited, origin_of as origin_of_spec, key_stream};
+ghost use Rattle.socket_server.specs.Sockets.{IsUnserved, IsLocal, unlimited, address_bits as address_bits_spec, key_stream};
 ghost use Rattle.socket_server.specs.Serving.{scene, unknown, uncounted, is_of_listener, is_listener_among, with_reports, readiness_of as readiness_of_spec, reported_event, reported_events, Passes, Does, IsOutside, Takes, HandsIn, Fails, Stops, GivesUp, MayTakeIn, TakesInSome, SweepsIfDue, TakesTurn, Turns, IsTurns, ServesUntil, Drawn};
 ghost use Rattle.socket_peers.specs.Peers.{is_sweep_due};
 
@@ -140,9 +140,9 @@ fn not_had(kind: ErrorKind) -> ServeFault
     }
 }
 
-// The number of an address.
-fn origin_of(address: IpAddr) -> u128
-    ensures { result ≡ origin_of_spec address }
+// The bits of an address.
+fn address_bits(address: IpAddr) -> u128
+    ensures { result ≡ address_bits_spec address }
 {
     match address {
         IpAddr::V4(short) => MAPPED + short.to_bits() as u128,
@@ -575,10 +575,10 @@ impl Serve {
     ) -> Result<(), ServeFault>
         ensures { let old = scene (key_stream self.old.keys) (keeping K.kept server.old) self.old.peers self.old.events (W.output observer.old) in
             let new = scene (key_stream self.new.keys) (keeping K.kept server.new) self.new.peers self.new.events (W.output observer.new) in
-            MatchResult result (λ _. MayTakeIn unknown unknown uncounted W.text (origin_of_spec (socket_ip address)) old new) (Stops unknown unknown uncounted W.text old new) }
+            MatchResult result (λ _. MayTakeIn unknown unknown uncounted W.text (address_bits_spec (socket_ip address)) old new) (Stops unknown unknown uncounted W.text old new) }
     {
-        let origin = origin_of(address.ip());
-        if self.peers.is_crowded(origin) {
+        let bits = address_bits(address.ip());
+        if self.peers.is_crowded(bits) {
             observer.crowded(address);
             return Ok(());
         }
@@ -599,7 +599,7 @@ impl Serve {
         let arrival = Arrival {
             number,
             address,
-            origin,
+            address_bits: bits,
             key: fresh_key(&mut self.keys),
         };
         join_socket(
