@@ -4,7 +4,7 @@ use Rattle.std.proofs.lemmas.Bool.{false≢true}
 use Rattle.ua_types.specs.Answers as answers
 use Rattle.stream_taps.specs.Tapped.{Tapped}
 use Rattle.server_core.specs.Running.{run_of, then_run}
-use Rattle.server_core.specs.Stepping.{Served, StepsTo, step_on, answer_by, server_by}
+use Rattle.server_core.specs.Stepping.{WorldStep, StepsTo, step_on, answer_by, server_by}
 use Rattle.server_core.specs.declared.event.Event.{Event}
 use Rattle.server_core.specs.declared.out.Step.{Step}
 use Rattle.server_core.specs.declared.out.StepFault.{StepFault}
@@ -20,7 +20,7 @@ use Rattle.commands.specs.NodeFiles.{Made}
 abbrev Answer : Type 0
 Answer = answers.Step Step StepFault State
 
-stepped_by : (old new : State) (x : Step) (r : Result Served StepFault) → answers.step (Ok x) new ≡ answers.step (answer_by r) (server_by old r) → new ≡ (then_run old r (λ s. run_of s [])).server
+stepped_by : (old new : State) (x : Step) (r : Result WorldStep StepFault) → answers.step (Ok x) new ≡ answers.step (answer_by r) (server_by old r) → new ≡ (then_run old r (λ s. run_of s [])).server
 stepped_by old new x (Ok s) e = ap (λ (y : Answer). y.state) e
 stepped_by old new x (Err f) e = absurd (false≢true (sym (ap (λ (y : Answer). is_ok y.answer) e)))
 

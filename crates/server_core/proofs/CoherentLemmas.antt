@@ -43,9 +43,9 @@ use Rattle.server_connections.proofs.ShuttingLemmas.{shut_agreed, shut_closed, s
 use Rattle.server_connections.proofs.NumberingLemmas.{taking_numbers, break_numbers, sent_numbers, opened_numbers, gone_numbers}
 use Rattle.server_core.specs.Coherent.{IsSound, IsCoherent, AnswersFit, lost_of, LosesNone, reached, IfRuns}
 use Rattle.server_core.specs.Effects.{Effect, Do, Occurred, Lost, doing, occurring, losing, effects_of}
-use Rattle.server_core.specs.Handling.{answered, asked_for, handled, broken, ticked_core}
+use Rattle.server_core.specs.Handling.{replies_sent, asked_for, handled, broken, ticked_core}
 use Rattle.server_core.specs.Stepping as stepping
-use Rattle.server_core.specs.Stepping.{Served, served, with_held, fed_to, fed, refusal_of, opened_by, step_of}
+use Rattle.server_core.specs.Stepping.{WorldStep, world_step, with_held, fed_to, fed, refusal_of, opened_by, step_of}
 use Rattle.ua_types.specs.Moments.{later}
 use Rattle.server_core.specs.World.{World, Core, opening}
 use Rattle.server_core.specs.declared.event.Event.{Event}
@@ -84,7 +84,7 @@ effects_lose_none occurrences d e =
 
 -- what was served is answered
 answered_right : (core : Core) (outs : List Out) (s : Serving) → AreInRange (limits_of core.setting.config) → AreAgreed core.setting.config core.connections → IsFresh core.connections → AreNumbered core.connections → ServesOnly (Talks core.connections) s →
-    (let d = answered core outs s in IsSound d.state × ((other : ℕ) → is_open d.state.connections other ≡ is_open core.connections other) × LosesNone d.outs)
+    (let d = replies_sent core outs s in IsSound d.state × ((other : ℕ) → is_open d.state.connections other ≡ is_open core.connections other) × LosesNone d.outs)
 answered_right core outs s ranges agreed fresh numbered only =
     let d = delivery_of core.setting core.connections s.replies in
     let right : IsDelivered core.setting.config core.connections d = delivered_right core.setting core.connections s.replies agreed only.replies in (
@@ -265,7 +265,7 @@ away_at config connections conn key fresh new q = by (eq_by_cmp nat_cmp q conn) 
     by true s = ap (is_open connections) (same_number q conn s) ∙ not_open (get connections.known conn) (fresh conn new)
     by false s = refl
 
-abbrev Right : Result Served StepFault → Type 0
+abbrev Right : Result WorldStep StepFault → Type 0
 Right r = Kept IsCoherent LosesNone r
 
 -- a connection is welcome only where the server wasn't shut down, and there is room
@@ -368,11 +368,11 @@ shut_right : (world : World) → IsCoherent world → (let s = stepping.shut_dow
 unfolding stepping.shut_down
 shut_right world p = by world.core.is_shut
   where
-    by : (b : Bool) → (let s : Served = cond b (served world []) (stepping.ended world) in IsCoherent s.world × LosesNone s.effects)
+    by : (b : Bool) → (let s : WorldStep = cond b (world_step world []) (stepping.ended world) in IsCoherent s.world × LosesNone s.effects)
     by true = (p, refl)
     by false = ended_right world p
 
-if_known_right : (b : Bool) (s : Served) → IsCoherent s.world × LosesNone s.effects → Right (cond b (Ok s) (Err UnknownConnection))
+if_known_right : (b : Bool) (s : WorldStep) → IsCoherent s.world × LosesNone s.effects → Right (cond b (Ok s) (Err UnknownConnection))
 if_known_right true s p = p
 if_known_right false s p = tt
 
@@ -382,7 +382,7 @@ if_known_right false s p = tt
 pub step_right : (world : World) (event : Event) → IsCoherent world → Right (step_of world event)
 step_right world (Opened conn key) p = opened_right world conn key (is_new world.core.connections conn) refl p
 step_right world (Bytes conn bytes) p = if_known_right (is_known world.core.connections conn) (fed world conn bytes) (fed_right world conn bytes p)
-step_right world (Gone conn) p = if_known_right (is_known world.core.connections conn) (served (stepping.forgotten world conn) []) (gone_right world conn p, refl)
+step_right world (Gone conn) p = if_known_right (is_known world.core.connections conn) (world_step (stepping.forgotten world conn) []) (gone_right world conn p, refl)
 step_right world (Tick now) p = ticked_right world (later world.core.setting.clock now) p
 step_right world Shutdown p = shut_right world p
 

@@ -10,7 +10,7 @@ use Rattle.number_slots.proofs.NumberMaps.{get_inserted, get_removed, remove_ins
 use Rattle.server_core.specs.Effects.{Effect}
 use Rattle.server_core.specs.World.{World, Core}
 use Rattle.server_core.specs.Handling.{handled, broken}
-use Rattle.server_core.specs.Stepping.{served, with_held, placed, fed_to, fed, fed_twice}
+use Rattle.server_core.specs.Stepping.{world_step, with_held, placed, fed_to, fed, fed_twice}
 
 -- what a piece does to one connection's framer and the rest
 brought_on : ℕ → ℕ → Core → Option (List ℕ) → List ℕ → Stepped Core Effect
@@ -27,23 +27,23 @@ brought_cut conn limit core None a b =
 second : (world : World) (conn limit : ℕ) (core : Core) (held : Option (List ℕ)) (outs : List Effect) (b : List ℕ) →
     let between : World = record { framers = with_held conn limit held (remove world.framers conn); core = core } in
     placed world conn limit (then_step (record { stream = record { state = core; held = held }; outs = outs }) (λ s. piece_served (handled conn) (broken conn) limit s b))
-    ≡ served (fed between conn b).world (outs ++ (fed between conn b).effects)
+    ≡ world_step (fed between conn b).world (outs ++ (fed between conn b).effects)
 unfolding fed
 second world conn limit core None outs b =
     let between : World = record { framers = remove world.framers conn; core = core } in
-    sym (ap (λ (f : Option Framing). served (fed_to between conn b f).world (outs ++ (fed_to between conn b f).effects)) (get_removed world.framers conn))
+    sym (ap (λ (f : Option Framing). world_step (fed_to between conn b f).world (outs ++ (fed_to between conn b f).effects)) (get_removed world.framers conn))
 second world conn limit core (Some held) outs b =
     let framing : Framing = record { limit = limit; held = Some held } in
     let between : World = record { framers = insert (remove world.framers conn) conn framing; core = core } in
     let step = piece_on (handled conn) (broken conn) limit core (Some held) b in
-    ap (λ (m : FinMap nat_cmp Framing). served (record { framers = with_held conn limit step.stream.held m; core = step.stream.state }) (outs ++ step.outs)) (sym (remove_inserted world.framers conn framing))
-    ∙ sym (ap (λ (f : Option Framing). served (fed_to between conn b f).world (outs ++ (fed_to between conn b f).effects)) (get_inserted (remove world.framers conn) conn framing))
+    ap (λ (m : FinMap nat_cmp Framing). world_step (record { framers = with_held conn limit step.stream.held m; core = step.stream.state }) (outs ++ step.outs)) (sym (remove_inserted world.framers conn framing))
+    ∙ sym (ap (λ (f : Option Framing). world_step (fed_to between conn b f).world (outs ++ (fed_to between conn b f).effects)) (get_inserted (remove world.framers conn) conn framing))
 
 cut_with : (world : World) (conn : ℕ) (a b : List ℕ) (found : Option Framing) → get world.framers conn ≡ found →
-    fed_to world conn (a ++ b) found ≡ served (fed (fed_to world conn a found).world conn b).world ((fed_to world conn a found).effects ++ (fed (fed_to world conn a found).world conn b).effects)
+    fed_to world conn (a ++ b) found ≡ world_step (fed (fed_to world conn a found).world conn b).world ((fed_to world conn a found).effects ++ (fed (fed_to world conn a found).world conn b).effects)
 unfolding brought_on fed
 cut_with world conn a b None e =
-    sym (ap (λ (f : Option Framing). served (fed_to world conn b f).world (fed_to world conn b f).effects) e)
+    sym (ap (λ (f : Option Framing). world_step (fed_to world conn b f).world (fed_to world conn b f).effects) e)
 cut_with world conn a b (Some framing) e =
     let first = brought_on conn framing.limit world.core framing.held a in
     ap (placed world conn framing.limit) (brought_cut conn framing.limit world.core framing.held a b)

@@ -1,5 +1,9 @@
 -- What the code does about a frame and a piece is what is said of it.
-use Rattle.std.proofs.Common.{◌≡◌, ℕ, Bool, true, false, cond, if◌then◌else◌, List, ◌++◌, Option, Some, None, Ok, refl, sym, subst, ◌∙◌, ap}
+use Rattle.std.proofs.Common.{◌≡◌, ℕ, Bool, true, false, cond, if◌then◌else◌, List, ◌++◌, Option, Some, None, Ok, Err, refl, sym, subst, ◌∙◌, ap}
+use Rattle.std.specs.Prelude.{⊤}
+use Rattle.server_messages.specs.declared.halt.Halt.{Halt}
+use Rattle.server_messages.specs.declared.halt.Halt.TheVariants.{Memory, Exhausted}
+use Rattle.server_core.specs.Faults.{fault_of}
 use Rattle.std.proofs.lemmas.Bool.{false≢true}
 use Rattle.std.specs.Ordering.{nat_cmp}
 use Rattle.std.specs.FinMap.{FinMap, get, insert, remove}
@@ -25,9 +29,9 @@ use Rattle.ua_services.specs.Serving.{Serving, Given, given, given_of}
 use Rattle.ua_services.specs.Services.{serving_of}
 use Rattle.server_core.specs.declared.out.Step.{Step}
 use Rattle.server_core.specs.Effects.{Effect, are_spent, step, no_step, shown}
-use Rattle.server_core.specs.Handling.{Doing, doing_so, doing_after, Shows, asked_for, answered, handled, broken}
+use Rattle.server_core.specs.Handling.{Doing, doing_so, doing_after, Shows, Handles, asked_for, replies_sent, handled, broken}
 use Rattle.server_core.specs.Stepping as stepping
-use Rattle.server_core.specs.Stepping.{Matches, with_held, fed_to, fed}
+use Rattle.server_core.specs.Stepping.{StepsTo, left_by, with_held, fed_to, fed}
 use Rattle.ua_types.specs.Answers as answers
 use Rattle.server_core.specs.World.{Core, World}
 use Rattle.server_core.proofs.EffectLemmas.{after_answered, answered_spends_none}
@@ -42,7 +46,7 @@ pub sent_shows : (core : Core) (before : Step) (between : List Out) (s : Serving
     given state served ≡ given_of s → replies ≡ served.replies →
     sending connections outs ≡ sending_after (before.outs ++ between) (delivery_of core.setting core.connections replies) →
     done ≡ step outs (before.rows ++ served.rows) (before.stored ++ served.stored) →
-    Shows (record core { connections = connections; services = state }) before done true (answered core between s)
+    Shows (record core { connections = connections; services = state }) before done true (replies_sent core between s)
 unfolding shape
 sent_shows core before between s state served replies connections outs done e g f h =
     let replies_are : replies ≡ s.replies = g ∙ ap (λ (x : Given). x.served.replies) e in
@@ -52,7 +56,7 @@ sent_shows core before between s state served replies connections outs done e g 
     ∙ ap (λ (x : Sending). shape core x.connections state (step x.outs (before.rows ++ served.rows) (before.stored ++ served.stored))) f'
     ∙ ap (λ (x : Given). shape core d.connections x.state (step (before.outs ++ between ++ d.outs) (before.rows ++ x.served.rows) (before.stored ++ x.served.stored))) e
     ∙ ap (shape core d.connections s.state) (sym (after_answered before between s.occurrences d))
-    ∙ ap (λ (b : Bool). let x : Doing = record (doing_after before (answered core between s)) { spends = b } in x)
+    ∙ ap (λ (b : Bool). let x : Doing = record (doing_after before (replies_sent core between s)) { spends = b } in x)
     (sym (answered_spends_none between s.occurrences d (sym (ap (λ (x : Given). x.spends) e))))
 
 pub request_shows : (conn : ℕ) (core : Core) (frame : Frame) (before : Step) (after outs : List Out) (done : Step) (found : FrameOutcome) (request : Request) (connections connections' : Connections) (state : Services) (served : Served) (replies : List Reply) →
@@ -126,21 +130,22 @@ piece_shows world conn piece framing core done b found e =
           ∙ ap (λ (x : Doing). x.spends) (sym e),
     )
 
-pub matches : (old new : World) (given : Step) (s : stepping.Served) → s.world ≡ new → shown s.effects ≡ given → are_spent s.effects ≡ false → Matches (Ok given) old new (Ok s)
-matches old new given s there told unspent = (ap (λ (w : World). answers.step (Ok (shown s.effects)) w) there ∙ ap (λ (g : Step). answers.step (Ok g) new) told, unspent)
+pub steps_to : (old new : World) (given : Step) (s : stepping.WorldStep) → s.world ≡ new → shown s.effects ≡ given → are_spent s.effects ≡ false →
+    StepsTo (Ok given) (Some old) (Some new) (Ok s) × (are_spent s.effects ≡ false)
+steps_to old new given s there shown_so unspent = (ap (λ (w : World). answers.step (Ok given) (Some w)) (sym there) ∙ ap (λ (g : Step). answers.step (Ok g) (Some s.world)) (sym shown_so), unspent)
 
 -- a framer that took a piece in its place, and is dropped there where the connection doesn't go on
 pub piece_in_place : (world : World) (conn : ℕ) (piece : List ℕ) (before after : Framing) (given : Fed) (core : Core) (begun done : Step) (b : Bool) (lent left : FinMap nat_cmp Framing) → get world.framers conn ≡ Some before →
     begun ≡ no_step → feeding given after ≡ feeding_of before piece → Shows core begun done b (and_then (all_handled (handled conn) world.core given.frames) (refused_if (broken conn) given.fault)) →
     lent ≡ insert world.framers conn after → left ≡ (if b then lent else remove lent conn) →
-    Matches (Ok done) world (record { framers = left; core = core }) (Ok (fed world conn piece))
+    StepsTo (Ok done) (Some world) (Some (record { framers = left; core = core })) (Ok (fed world conn piece)) × (are_spent (fed world conn piece).effects ≡ false)
 piece_in_place world conn piece before after given core begun done b lent left there none fed_is shows back is =
     let said : Fed → Done Core Effect = λ f. and_then (all_handled (handled conn) world.core f.frames) (refused_if (broken conn) f.fault) in
     let from_nothing = subst (λ (s : Step). Shows core s done b (said given)) none shows in
     let shown_so = piece_shows world conn piece before core done b there
     (subst (λ (f : Fed). Shows core no_step done b (said f)) (ap (λ (x : Feeding). x.fed) fed_is) from_nothing) in
     let at : Framing → World = λ framing. record { framers = framers_kept b conn framing (remove world.framers conn); core = core } in
-    matches world (record { framers = left; core = core }) done (fed world conn piece)
+    steps_to world (record { framers = left; core = core }) done (fed world conn piece)
     (shown_so.0
     ∙ ap (λ (x : Feeding). at x.framing) (sym fed_is)
     ∙ ap (λ (ls : FinMap nat_cmp Framing). record { framers = ls; core = core }) (kept_in_place b conn after world.framers lent left back is))
@@ -154,3 +159,17 @@ piece_spends world conn piece framing found =
     let framed = framed_of framing.limit framing.held piece in
     ap (λ (f : Option Framing). (fed_to world conn piece f).effects) found
     ∙ ap (λ (x : Stepped Core Effect). x.outs) (at_end_by_fault (handled conn) (broken conn) framed.end (all_handled (handled conn) world.core framed.frames))
+
+-- where a piece can't be handled, the server halts
+pub piece_halts : (world : World) (conn : ℕ) (piece : List ℕ) (before after : Framing) (given : Fed) (halt : Halt) (core : Core) (begun done : Step) (new : World) → get world.framers conn ≡ Some before →
+    feeding given after ≡ feeding_of before piece → Handles (Err halt) core begun done (and_then (all_handled (handled conn) world.core given.frames) (refused_if (broken conn) given.fault)) →
+    StepsTo (Err (fault_of halt)) (Some world) (left_by (Err (fault_of halt)) new) (Ok (fed world conn piece)) × ⊤
+piece_halts world conn piece before after given Memory core begun done new there fed_is halts = (refl, tt)
+piece_halts world conn piece before after given Exhausted core begun done new there fed_is halts = (
+  (
+    refl,
+    ap are_spent (piece_spends world conn piece before there)
+        ∙ ap (λ (x : Feeding). are_spent (and_then (all_handled (handled conn) world.core x.fed.frames) (refused_if (broken conn) x.fed.fault)).outs) (sym fed_is) ∙ halts,
+  ),
+  tt,
+)

@@ -12,7 +12,7 @@ use Rattle.server_core.specs.Coherent.{IfRuns}
 use Rattle.server_core.specs.Effects.{Effect}
 use Rattle.server_core.specs.Handling.{handled, broken}
 use Rattle.server_core.specs.Running.{Running, then_run, run_of}
-use Rattle.server_core.specs.Stepping.{Served, step_of}
+use Rattle.server_core.specs.Stepping.{WorldStep, step_of}
 use Rattle.server_core.specs.World.{World, Core}
 
 -- ---- frames and pieces: P is kept of the rest of the server while the connection goes on, or once it doesn't, and Q is said of the effects
@@ -49,12 +49,12 @@ module _ (conn : ℕ) (P : Bool → Core → Type 0) (Q : List Effect → Type 0
 -- ---- runs
 
 -- what an event leaves, unless it is refused
-abbrev pub Kept : (World → Type 0) → (List Effect → Type 0) → Result Served StepFault → Type 0
+abbrev pub Kept : (World → Type 0) → (List Effect → Type 0) → Result WorldStep StepFault → Type 0
 Kept P Q (Ok s) = P s.world × Q s.effects
 Kept P Q (Err fault) = ⊤
 
 module _ (P : World → Type 0) (Q : List Effect → Type 0) (by_event : (world : World) (event : Event) → P world → Kept P Q (step_of world event)) where
-  run_by : (world : World) (r : Result Served StepFault) (more : Option World → Running) → P world → Kept P Q r →
+  run_by : (world : World) (r : Result WorldStep StepFault) (more : Option World → Running) → P world → Kept P Q r →
       ((next : World) → P next → IfRuns P (more (Some next)).server × AllByRecursion Q (more (Some next)).steps) →
       (let r = then_run (Some world) r more in IfRuns P r.server × AllByRecursion Q r.steps)
   run_by world (Ok s) more p k f = let rest = f s.world k.0 in (rest.0, (k.1, rest.1))

@@ -8,7 +8,7 @@ use Rattle.server_core.specs.declared.out.StepFault.{StepFault}
 use Rattle.server_core.specs.declared.out.StepFault.TheVariants.{UnknownConnection}
 use Rattle.server_core.specs.Effects.{Effect}
 use Rattle.server_core.specs.Running.{Running, run_after, then_run, run_of, Joined, joined_as, joined_effects, joined_run, joined_front, uncut, heard, heard_run}
-use Rattle.server_core.specs.Stepping.{Served, fed, step_on}
+use Rattle.server_core.specs.Stepping.{WorldStep, fed, step_on}
 use Rattle.server_core.specs.World.{World}
 use Rattle.server_core.proofs.ApartLemmas.{fed_known}
 use Rattle.server_core.proofs.CutLemmas.{fed-cut}
@@ -20,7 +20,7 @@ behind effects j = joined_as (effects ++ j.effects) j.fault j.server
 
 -- ---- a run goes on alike after the same event
 
-alike_by : (server : Option World) (r : Result Served StepFault) (more other : Option World → Running) → ((s : Option World) → joined_run (more s) ≡ joined_run (other s)) →
+alike_by : (server : Option World) (r : Result WorldStep StepFault) (more other : Option World → Running) → ((s : Option World) → joined_run (more s) ≡ joined_run (other s)) →
     joined_run (then_run server r more) ≡ joined_run (then_run server r other)
 alike_by server (Ok s) more other f = ap (behind s.effects) (f (Some s.world))
 alike_by server (Err fault) more other f = refl
@@ -43,7 +43,7 @@ two_by world conn a b true more e =
     let rest = more (Some second.world) in
     ap (λ (k : Bool). behind first.effects (joined_run (then_run (Some first.world) (cond k (Ok second) (Err UnknownConnection)) more))) still
     ∙ ap (λ (es : List Effect). joined_as es rest.fault rest.server) (sym (append_assoc first.effects second.effects (joined_effects rest.steps)))
-    ∙ ap (λ (s : Served). joined_run (run_after (s.effects ∷ []) (more (Some s.world)))) (sym (fed-cut world conn a b))
+    ∙ ap (λ (s : WorldStep). joined_run (run_after (s.effects ∷ []) (more (Some s.world)))) (sym (fed-cut world conn a b))
 
 pub two_pieces : (server : Option World) (conn : ℕ) (a b : List ℕ) (events : List Event) →
     joined_run (run_of server (Bytes conn a ∷ Bytes conn b ∷ events)) ≡ joined_run (run_of server (Bytes conn (a ++ b) ∷ events))
@@ -119,10 +119,10 @@ heard_both server conn bytes [] e =
 heard_both server conn bytes (byte ∷ piece) e = heard_next server conn bytes byte piece e
 
 -- a piece that is answered
-answered_by : (server : Option World) (r : Result Served StepFault) (s : Served) → r ≡ Ok s → joined_run (then_run server r (λ t. run_of t [])) ≡ joined_as s.effects None (Some s.world)
-answered_by server (Ok t) s e = ap (λ (r : Result Served StepFault). joined_run (then_run server r (λ t. run_of t []))) e ∙ ap (λ (es : List Effect). joined_as es None (Some s.world)) (append-nil s.effects)
+answered_by : (server : Option World) (r : Result WorldStep StepFault) (s : WorldStep) → r ≡ Ok s → joined_run (then_run server r (λ t. run_of t [])) ≡ joined_as s.effects None (Some s.world)
+answered_by server (Ok t) s e = ap (λ (r : Result WorldStep StepFault). joined_run (then_run server r (λ t. run_of t []))) e ∙ ap (λ (es : List Effect). joined_as es None (Some s.world)) (append-nil s.effects)
 answered_by server (Err fault) s e = absurd cc
 
-pub heard_piece : (server : Option World) (conn byte : ℕ) (piece : List ℕ) (s : Served) → step_on server (Bytes conn (byte ∷ piece)) ≡ Ok s →
+pub heard_piece : (server : Option World) (conn byte : ℕ) (piece : List ℕ) (s : WorldStep) → step_on server (Bytes conn (byte ∷ piece)) ≡ Ok s →
     heard_run server conn (byte ∷ piece) ≡ joined_as s.effects None (Some s.world)
 heard_piece server conn byte piece s e = answered_by server (step_on server (Bytes conn (byte ∷ piece))) s e

@@ -9,7 +9,7 @@ use Rattle.server_core.specs.declared.out.Step.{Step}
 use Rattle.server_core.specs.declared.out.StepFault.{StepFault}
 use Rattle.server_core.specs.declared.out.StepFault.TheVariants.{KnownConnection, UnknownConnection, Memory, Halted, Exhausted}
 use Rattle.server_core.specs.Effects.{Effect, are_spent, shown}
-use Rattle.server_core.specs.Stepping.{Served, step_on, answer_by, server_by, StepsTo, IsSpent, IsUnspent}
+use Rattle.server_core.specs.Stepping.{WorldStep, step_on, answer_by, server_by, StepsTo, IsSpent, IsUnspent}
 use Rattle.server_core.specs.Running.{Running, Shown, running, run_after, then_run, run_of, shown_as, shown_run, BreaksOff, Spends, Runs}
 use Rattle.server_core.specs.World.{World}
 
@@ -28,7 +28,7 @@ after_and : (effects : List Effect) (steps : List (List Effect)) (fault : Option
 after_and effects steps None server more = refl
 after_and effects steps (Some fault) server more = refl
 
-append_by : (server : Option World) (r : Result Served StepFault) (both first : Option World → Running) (more : Option World → Running) → ((s : Option World) → both s ≡ and_run (first s) more) →
+append_by : (server : Option World) (r : Result WorldStep StepFault) (both first : Option World → Running) (more : Option World → Running) → ((s : Option World) → both s ≡ and_run (first s) more) →
     then_run server r both ≡ and_run (then_run server r first) more
 append_by server (Ok s) both first more f =
     let rest = first (Some s.world) in
@@ -88,14 +88,14 @@ module _ (old : Option World) (events : List Event) (event : Event) (left : List
       run_of-append old b.passed (event ∷ more) ∙ ap (λ (r : Running). and_run r (λ s. run_of s (event ∷ more))) b.ran
 
   -- an event that was answered goes to those that have passed
-  next_by : (r : Result Served StepFault) → step_on server event ≡ r → (given : Step) (after : Option World) → answers.step (Ok given) after ≡ answers.step (answer_by r) (server_by server r) → IsUnspent r →
+  next_by : (r : Result WorldStep StepFault) → step_on server event ≡ r → (given : Step) (after : Option World) → answers.step (Ok given) after ≡ answers.step (answer_by r) (server_by server r) → IsUnspent r →
       Begun old events left (steps ++ given ∷ []) after
   next_by (Ok s) is given after e none = record {
     passed = b.passed ++ event ∷ [];
     split = b.split ∙ sym (append_assoc b.passed (event ∷ []) left);
     done = b.done ++ s.effects ∷ [];
     ran = whole []
-        ∙ ap (λ (r : Result Served StepFault). run_after b.done (then_run server r (λ s. run_of s []))) is
+        ∙ ap (λ (r : Result WorldStep StepFault). run_after b.done (then_run server r (λ s. run_of s []))) is
         ∙ ap (λ (x : Answered). running (b.done ++ s.effects ∷ []) None x.state) (sym e);
     given = steps_more b.done s.effects ∙ ap (λ (ss : List Step). ss ++ shown s.effects ∷ []) b.given
         ∙ sym (ap (λ (x : Answered). steps ++ step_or given x.answer ∷ []) e);
@@ -107,7 +107,7 @@ module _ (old : Option World) (events : List Event) (event : Event) (left : List
   next given after e none = next_by (step_on server event) refl given after e none
 
   -- an event that was refused ends the run
-  refused_by : (r : Result Served StepFault) → step_on server event ≡ r → (fault : StepFault) (after : Option World) → answers.step (Err fault) after ≡ answers.step (answer_by r) (server_by server r) →
+  refused_by : (r : Result WorldStep StepFault) → step_on server event ≡ r → (fault : StepFault) (after : Option World) → answers.step (Err fault) after ≡ answers.step (answer_by r) (server_by server r) →
       shown_as steps (Some fault) after ≡ shown_run (run_of old events)
   refused_by (Ok s) is fault after e = absurd (false≢true (ap (λ (x : Answered). is_ok x.answer) e))
   refused_by (Err f) is fault after e =
@@ -115,7 +115,7 @@ module _ (old : Option World) (events : List Event) (event : Event) (left : List
       ∙ ap (λ (ss : List Step). shown_as ss (Some f) server) (sym b.given)
       ∙ ap (λ (spends : Bool). let x : Shown = record (shown_as (map shown b.done) (Some f) server) { spends = spends } in x) (sym b.counted)
       ∙ ap (λ (ss : List (List Effect)). shown_run (running ss (Some f) server)) (sym (append-nil b.done))
-      ∙ ap (λ (r : Result Served StepFault). shown_run (run_after b.done (then_run server r (λ s. run_of s left)))) (sym is)
+      ∙ ap (λ (r : Result WorldStep StepFault). shown_run (run_after b.done (then_run server r (λ s. run_of s left)))) (sym is)
       ∙ ap shown_run (sym (whole left))
       ∙ ap (λ (es : List Event). shown_run (run_of old es)) (sym b.split)
 

@@ -27,8 +27,8 @@ abbrev pub closed_on : ℕ → Core → Core
 closed_on conn core = record core { services = forgotten core.services conn }
 
 -- what was served, and the replies are sent
-abbrev pub answered : Core → List Out → Serving → Done Core Effect
-answered core outs s =
+abbrev pub replies_sent : Core → List Out → Serving → Done Core Effect
+replies_sent core outs s =
     let d = delivery_of core.setting core.connections s.replies in
     done (record core { connections = d.connections; services = s.state }) (doing outs ++ effects_of s.occurrences d) true
 
@@ -36,7 +36,7 @@ answered core outs s =
 abbrev pub asked_for : ℕ → Core → List Out → FrameOutcome → Done Core Effect
 asked_for conn core outs outcome.Nothing = done core (doing outs) true
 asked_for conn core outs outcome.Closed = done (closed_on conn core) (doing outs) false
-asked_for conn core outs (outcome.Request request) = answered core outs (serving_of core.setting request core.services)
+asked_for conn core outs (outcome.Request request) = replies_sent core outs (serving_of core.setting request core.services)
 
 abbrev pub handled_by : ℕ → Core → Taking → Done Core Effect
 handled_by conn core t = asked_for conn (record core { connections = t.connections }) t.outs t.asked
@@ -64,7 +64,7 @@ abbrev pub ticked_core : Core → Moment → Done Core Effect
 ticked_core core clock =
     let setting : Setting = setting_at core clock in
     let at : Core = record core { setting = setting } in
-    answered at [] (ticking_of setting core.services)
+    replies_sent at [] (ticking_of setting core.services)
 
 -- The server ends: its services do, and what they answer is sent; then the connections that are open are closed
 abbrev pub shut_core : Core → Done Core Effect

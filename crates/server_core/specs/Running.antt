@@ -9,7 +9,7 @@ use Rattle.server_core.specs.declared.out.Step.{Step}
 use Rattle.server_core.specs.declared.out.StepFault.{StepFault}
 use Rattle.server_core.specs.declared.out.StepFault.TheVariants.{Memory, Exhausted}
 use Rattle.server_core.specs.Effects.{Effect, are_spent, shown}
-use Rattle.server_core.specs.Stepping.{Served, step_on, IsSpent}
+use Rattle.server_core.specs.Stepping.{WorldStep, step_on, IsSpent}
 use Rattle.server_core.specs.World.{World}
 
 -- the effects of each event, the fault that ended the run, and the server after it
@@ -25,7 +25,7 @@ running steps fault server = record { steps = steps; fault = fault; server = ser
 abbrev pub run_after : List (List Effect) → Running → Running
 run_after steps r = running (steps ++ r.steps) r.fault r.server
 
-abbrev pub then_run : Option World → Result Served StepFault → (Option World → Running) → Running
+abbrev pub then_run : Option World → Result WorldStep StepFault → (Option World → Running) → Running
 then_run server (Ok s) more = run_after (s.effects ∷ []) (more (Some s.world))
 then_run server (Err fault) more = running [] (Some fault) server
 

@@ -1,9 +1,9 @@
 //! All that the server is, and what an event does to it.
 
-ghost use Rattle.std.specs.Prelude.{◌≡◌, true, false, None, Ok, Err, IsOk, OnOk};
+ghost use Rattle.std.specs.Prelude.{◌≡◌, true, false, Some, None, Ok, Err, IsOk, IfOk, OnOk};
 ghost use Rattle.std.specs.FinMap.{get};
 ghost use Rattle.server_connections.specs.Connecting.{is_new, is_known};
-ghost use Rattle.server_core.specs.Stepping.{fed, greeted, has_room as has_room_spec, refusal_of, opened, shut_down, step_of, Matches, takes_no_memory};
+ghost use Rattle.server_core.specs.Stepping.{fed, greeted, has_room as has_room_spec, refusal_of, opened, shut_down, step_of, StepsTo, left_by, IsUnspent, takes_no_memory};
 ghost use Rattle.server_core.specs.declared.out.StepFault.TheVariants as step_fault;
 
 use crate::event::Event;
@@ -29,7 +29,7 @@ impl World {
     // Takes a piece of a connection's stream. One that is closed takes nothing, and no memory.
     #[tactic(auto, unfolding(crate::specs::Stepping::fed))]
     fn feed(&mut self, alloc: Global, conn: u64, piece: &Bytes) -> Result<Step, StepFault>
-        ensures fed { Matches result self.old self.new (Ok (fed self.old conn piece.now)) }
+        ensures fed { StepsTo result (Some self.old) (left_by result self.new) (Ok (fed self.old conn piece.now)) × IfOk result (λ step. IsUnspent (Ok (fed self.old conn piece.now))) }
         ensures closed { get self.old.framers conn ≡ None → IsOk result }
     {
         let mut step = Step::new(alloc);
@@ -76,7 +76,7 @@ impl World {
 
     #[tactic(auto, using(crate::proofs::EffectLemmas::shown_doing, crate::proofs::EffectLemmas::doing_spends_none))]
     fn open(&mut self, alloc: Global, conn: u64, key: &[u8; 32]) -> Result<Step, StepFault>
-        ensures opened { Matches result self.old self.new (opened self.old conn key.now) }
+        ensures opened { StepsTo result (Some self.old) (left_by result self.new) (opened self.old conn key.now) × IfOk result (λ step. IsUnspent (opened self.old conn key.now)) }
         ensures memory { result ≡ Err step_fault.Memory → is_new self.old.core.connections conn ≡ true }
     {
         if !self.core.connections.is_new(conn) {
@@ -96,7 +96,7 @@ impl World {
 
     // Ends all that is open, unless that was done before.
     fn shut_down(&mut self, alloc: Global) -> Result<Step, StepFault>
-        ensures shut { Matches result self.old self.new (Ok (shut_down self.old)) }
+        ensures shut { StepsTo result (Some self.old) (left_by result self.new) (Ok (shut_down self.old)) × IfOk result (λ step. IsUnspent (Ok (shut_down self.old))) }
         ensures again { self.old.core.is_shut ≡ true → IsOk result }
     {
         if self.core.is_shut {
@@ -109,7 +109,8 @@ impl World {
 
     /// Does what an event asks for. The world is as it was at a fault that refuses the event.
     pub fn step(&mut self, alloc: Global, event: &Event) -> Result<Step, StepFault>
-        ensures step { Matches result self.old self.new (step_of self.old event.now) }
+        ensures step { StepsTo result (Some self.old) (left_by result self.new) (step_of self.old event.now) }
+        ensures counted { IfOk result (λ step. IsUnspent (step_of self.old event.now)) }
         ensures memory { result ≡ Err step_fault.Memory → takes_no_memory self.old event.now ≡ false }
     {
         match event {

@@ -57,11 +57,11 @@ use Rattle.ua_subscriptions.specs.Ending.{session_ended}
 use Rattle.ua_subscriptions.specs.Making.{modified, republished}
 use Rattle.ua_subscriptions.specs.Named.{is_own, named_all, deleted}
 use Rattle.ua_subscriptions.specs.Publishing.{published}
-use Rattle.ua_subscriptions.specs.SubscriptionCalls.{SubscriptionsState, Said, said, told, created}
+use Rattle.ua_subscriptions.specs.SubscriptionCalls.{SubscriptionsState, Said, said, without_answer, created}
 use Rattle.subscription_laws.specs.Apartness.{IsRequestOf, OthersStay}
 use Rattle.subscription_laws.specs.Runs.{ItemsCall, Move, Ran, ran_by, moved, start}
 use Rattle.subscription_laws.proofs.Others.{none_changes, requests_stay_apart}
-use Rattle.ua_subscriptions.specs.Tables.{World, vars_found}
+use Rattle.ua_subscriptions.specs.Tables.{Stage, vars_found}
 use Rattle.ua_subscriptions.specs.declared.call.Call.TheVariants as sub_call
 use Rattle.ua_browse.specs.Browsing.{page_size, browse_of}
 use Rattle.ua_session.specs.Sessions.{SessionsState, Named, named, points_of, with_points, create_of, activate_of, find_of, close_of, ticked, ended_by}
@@ -98,7 +98,7 @@ use Rattle.ua_services.specs.SessionServing.{spent_by, taken, with_sessions}
 use Rattle.ua_services.specs.SetMonitoringMode.{items_moded, set_monitoring_mode_meaning}
 use Rattle.ua_services.specs.SetPublishingMode.{set_publishing_listed, set_publishing_mode_meaning}
 use Rattle.ua_services.specs.StatusResults.{statuses_body}
-use Rattle.ua_services.specs.SubServing.{world_at, called, no_reply, told_alone, nothing_done, session_over, timed_out}
+use Rattle.ua_services.specs.SubServing.{stage_at, called, no_reply, called_alone, nothing_done, session_over, timed_out}
 use Rattle.ua_services.specs.Write.{sampled, write_listed, write_meaning}
 use Rattle.ua_services.specs.declared.caller.Caller.{Caller}
 use Rattle.ua_services.specs.declared.history_read.Wanted.{Wanted}
@@ -163,11 +163,11 @@ one_stays session state from own s move f is = record {
   rest = subst (StaysIn session state) (f from.rows from.came.replied) (call_stays session state from move is);
 }
 
-told_stays : (session : ℕ) (state : Services) (from : CameBy state.subs state.items) (w : World) (move : Move) →
-    ((so_far : List Fired) (replies : List Reply) → moved (ran_at state so_far replies) move ≡ ran_by (ran_at state so_far replies) (told state.subs w)) → IsRequestOf session state.subs.table move →
-    KeepsRest session state (told_alone state w).state
-unfolding told_alone
-told_stays session state from w move f is = one_stays session state from no_reply (told state.subs w) move f is
+told_stays : (session : ℕ) (state : Services) (from : CameBy state.subs state.items) (w : Stage) (move : Move) →
+    ((so_far : List Fired) (replies : List Reply) → moved (ran_at state so_far replies) move ≡ ran_by (ran_at state so_far replies) (without_answer state.subs w)) → IsRequestOf session state.subs.table move →
+    KeepsRest session state (called_alone state w).state
+unfolding called_alone
+told_stays session state from w move f is = one_stays session state from no_reply (without_answer state.subs w) move f is
 
 -- the same, where the serving is seen to be one of two
 record Apart (session : ℕ) (state : Services) (s : Serving) : Type 0 where
@@ -210,7 +210,7 @@ closed_stays : (session : ℕ) (setting : Setting) (caller : Caller) (deleting :
 closed_stays session setting caller deleting state from (Ok number) sessions made p is =
     let open_state = with_sessions state sessions in
     later_stays session state sessions (session_over setting deleting number open_state).state made p
-    (told_stays session open_state from (session_ended number deleting (world_at setting open_state)) (Move.EndSession setting.clock number deleting) (λ so_far replies. refl) is)
+    (told_stays session open_state from (session_ended number deleting (stage_at setting open_state)) (Move.EndSession setting.clock number deleting) (λ so_far replies. refl) is)
 closed_stays session setting caller deleting state from (Err code) sessions made p is = nothing_stays session state sessions p
 
 close_session_stays : (session : ℕ) (setting : Setting) (caller : Caller) (token : NodeId) (state : Services) (from : CameBy state.subs state.items) (request : CloseSessionRequest) → NamesIn session state token →
@@ -305,12 +305,12 @@ create_subscription_stays session setting caller request state from =
 
 modify_subscription_stays : (session : ℕ) (setting : Setting) (caller : Caller) (request : ModifySubscriptionRequest) (state : Services) → CameBy state.subs state.items → KeepsRest session state (modify_subscription_meaning setting caller session request state).state
 modify_subscription_stays session setting caller request state from =
-    one_stays session state from (λ answer. reply_of caller (modify_subscription_body setting caller answer) ∷ []) (said state.subs (modified session request.subscription_id (settings_wanted request) (world_at setting state)))
+    one_stays session state from (λ answer. reply_of caller (modify_subscription_body setting caller answer) ∷ []) (said state.subs (modified session request.subscription_id (settings_wanted request) (stage_at setting state)))
     (Move.Modify setting.clock session request.subscription_id (settings_wanted request)) (λ so_far replies. refl) refl
 
 publishing_listed_stays : (session : ℕ) (setting : Setting) (caller : Caller) (enabled : Bool) (state : Services) (from : CameBy state.subs state.items) (r : Result (List ℕ) Status) → KeepsRest session state (set_publishing_listed setting caller session enabled state r).state
 publishing_listed_stays session setting caller enabled state from (Ok numbers) =
-    one_stays session state from (λ statuses. reply_of caller (statuses_body SET_PUBLISHING_MODE_RESPONSE setting caller statuses) ∷ []) (said state.subs (named_all session (sub_call.SetMode enabled) (world_at setting state) numbers))
+    one_stays session state from (λ statuses. reply_of caller (statuses_body SET_PUBLISHING_MODE_RESPONSE setting caller statuses) ∷ []) (said state.subs (named_all session (sub_call.SetMode enabled) (stage_at setting state) numbers))
     (Move.SetMode setting.clock session numbers enabled) (λ so_far replies. refl) refl
 publishing_listed_stays session setting caller enabled state from (Err code) = none_stays session state
 
@@ -319,7 +319,7 @@ set_publishing_mode_stays session setting caller request state from = publishing
 
 subscriptions_deleted_stay : (session : ℕ) (setting : Setting) (caller : Caller) (state : Services) (from : CameBy state.subs state.items) (r : Result (List ℕ) Status) → KeepsRest session state (delete_subscriptions_listed setting caller session state r).state
 subscriptions_deleted_stay session setting caller state from (Ok numbers) =
-    one_stays session state from (λ statuses. reply_of caller (statuses_body DELETE_SUBSCRIPTIONS_RESPONSE setting caller statuses) ∷ []) (said state.subs (deleted session (world_at setting state) numbers))
+    one_stays session state from (λ statuses. reply_of caller (statuses_body DELETE_SUBSCRIPTIONS_RESPONSE setting caller statuses) ∷ []) (said state.subs (deleted session (stage_at setting state) numbers))
     (Move.Delete setting.clock session numbers) (λ so_far replies. refl) refl
 subscriptions_deleted_stay session setting caller state from (Err code) = none_stays session state
 
@@ -329,14 +329,14 @@ delete_subscriptions_stays session setting caller request state from = subscript
 publish_stays : (session : ℕ) (setting : Setting) (caller : Caller) (request : PublishRequest) (state : Services) → CameBy state.subs state.items → KeepsRest session state (publish_meaning setting caller session request state).state
 publish_stays session setting caller request state from =
     let acks = or_none request.subscription_acknowledgements in
-    let w = published session (publish_call caller) acks (world_at setting state) in
-    let told_so : Apart session state (told_alone state w) = record { stays = told_stays session state from w (Move.Publish setting.clock session (publish_call caller) acks) (λ so_far replies. refl) refl } in
+    let w = published session (publish_call caller) acks (stage_at setting state) in
+    let told_so : Apart session state (called_alone state w) = record { stays = told_stays session state from w (Move.Publish setting.clock session (publish_call caller) acks) (λ so_far replies. refl) refl } in
     let one : Apart session state (publish_meaning setting caller session request state) = either session state (nat_lt setting.config.operations (length acks)) _ _ (record { stays = none_stays session state }) told_so in
     one.stays
 
 republish_stays : (session : ℕ) (setting : Setting) (caller : Caller) (request : RepublishRequest) (state : Services) → CameBy state.subs state.items → KeepsRest session state (republish_meaning setting caller session request state).state
 republish_stays session setting caller request state from =
-    one_stays session state from (λ answer. reply_of caller (republish_answer setting caller answer) ∷ []) (said state.subs (republished session request.subscription_id request.retransmit_sequence_number (world_at setting state)))
+    one_stays session state from (λ answer. reply_of caller (republish_answer setting caller answer) ∷ []) (said state.subs (republished session request.subscription_id request.retransmit_sequence_number (stage_at setting state)))
     (Move.Republish setting.clock session request.subscription_id request.retransmit_sequence_number) (λ so_far replies. refl) refl
 
 -- ---- monitored items
@@ -470,17 +470,17 @@ module _ (setting : Setting) (request : Request) (state : Services) (from : Came
 
 -- a tick ends sessions, and makes none
 timed_out_sessions : (setting : Setting) (numbers : List ℕ) (s : Serving) → (fold (timed_out setting) s numbers).state.sessions ≡ s.state.sessions
-unfolding timed_out told_alone
+unfolding timed_out called_alone
 timed_out_sessions setting [] s = refl
 timed_out_sessions setting (number ∷ numbers) s = timed_out_sessions setting numbers (timed_out setting s number)
 
 pub tick_fresh : (setting : Setting) (state : Services) → IsFresh state.sessions → IsFresh (ticking_of setting state).state.sessions
-unfolding told_alone
+unfolding called_alone
 tick_fresh setting state fresh =
     let after = with_sessions state (ticked state.sessions setting.clock) in
     subst IsFresh (sym (timed_out_sessions setting (ended_by state.sessions setting.clock) (nothing_done after))) (ticked_fresh state.sessions setting.clock fresh)
 
 -- nor does the server's end make any
 pub end_fresh : (setting : Setting) (state : Services) → IsFresh (shutting_of setting state).state.sessions
-unfolding shutting_of told_alone
+unfolding shutting_of called_alone
 end_fresh setting state = λ number above. get-empty nat_cmp number

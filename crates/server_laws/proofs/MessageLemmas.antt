@@ -11,10 +11,10 @@ use Rattle.ua_space.specs.Nodes.{SpaceState}
 use Rattle.ua_subscriptions.specs.declared.messages.KeptMessage.{KeptMessage}
 use Rattle.ua_subscriptions.specs.declared.subscription.Subscription.{Subscription}
 use Rattle.ua_subscriptions.specs.Answers.{number_of}
-use Rattle.ua_subscriptions.specs.Making.{bytes_of, kept_by as bytes_kept_by, kept_at, republished}
+use Rattle.ua_subscriptions.specs.Making.{bytes_of, kept_bytes_by, kept_at, republished}
 use Rattle.ua_subscriptions.specs.Messages.{has_number}
-use Rattle.ua_subscriptions.specs.SubscriptionCalls.{SubscriptionsState, world_of}
-use Rattle.ua_subscriptions.specs.Tables.{kept_by, subscription_at}
+use Rattle.ua_subscriptions.specs.SubscriptionCalls.{SubscriptionsState, stage_of}
+use Rattle.ua_subscriptions.specs.Tables.{kept_numbers_by, subscription_at}
 use Rattle.ua_monitored_items.specs.Items.{ItemsState}
 use Rattle.ua_services.specs.declared.services.Services.{Services}
 use Rattle.subscription_laws.specs.Messaging.{Made, moved_made, run_made, messages_for, IsAmong, NotesComeNext}
@@ -25,7 +25,7 @@ use Rattle.server_laws.specs.Dealings.{Dealing, event_dealings, dealings_then, d
 use Rattle.server_laws.specs.EventMoves.{moves_at, moves_of}
 use Rattle.server_core.specs.Coherent.{reached, IfRuns}
 use Rattle.server_laws.specs.Messages.{LastsAreTheirs, KeepsWhatItShows, made_by, NumbersItsMessages, GivesTheFirstBytes}
-use Rattle.server_core.specs.Stepping.{Served, step_of}
+use Rattle.server_core.specs.Stepping.{WorldStep, step_of}
 use Rattle.server_laws.specs.Tables.{rows_of_run, LeadTo}
 use Rattle.server_core.specs.World.{opening}
 use Rattle.server_core.specs.declared.world.World.{World}
@@ -36,7 +36,7 @@ use Rattle.server_laws.proofs.TableLemmas.{comes_by_moves}
 -- ---- the calls of events
 
 -- more events only add to what is asked
-add_by : (world : World) (event : Event) (r : Result Served StepFault) (long short : World → List Dealing) → ((next : World) → (later : List Dealing) × (long next ≡ short next ++ later)) →
+add_by : (world : World) (event : Event) (r : Result WorldStep StepFault) (long short : World → List Dealing) → ((next : World) → (later : List Dealing) × (long next ≡ short next ++ later)) →
     (later : List Dealing) × (dealings_then world event r long ≡ dealings_then world event r short ++ later)
 add_by world event (Ok s) long short f =
     let rest = f s.world in
@@ -78,7 +78,7 @@ all_kept : (kept : List KeptMessage) → AllByRecursion (IsKept kept) (map numbe
 all_kept [] = tt
 all_kept (m ∷ kept) = (kept_first m kept, all_behind m kept (map number_of kept) (all_kept kept))
 
-shown_by : (found : Option Subscription) → AllByRecursion (λ wanted. is_some (bytes_kept_by wanted found) ≡ true) (kept_by found)
+shown_by : (found : Option Subscription) → AllByRecursion (λ wanted. is_some (kept_bytes_by wanted found) ≡ true) (kept_numbers_by found)
 shown_by None = tt
 shown_by (Some s) = all_kept s.kept
 
@@ -127,7 +127,7 @@ module _ (config : Configuration) (space : SpaceState) (events : List Event) whe
   pub gives_first_bytes : GivesTheFirstBytes config space events
   gives_first_bytes = record {
     kept = holds (λ (subs : SubscriptionsState) (items : ItemsState). (number wanted : ℕ) (bytes : List ℕ) → kept_at number wanted subs.table ≡ Some bytes → IsAmong (record { number = wanted; bytes = bytes }) (messages_for number made)) (messages_kept config moves);
-    republished = holds (λ (subs : SubscriptionsState) (items : ItemsState). (clock : Moment) (session number wanted : ℕ) (bytes : List ℕ) → (republished session number wanted (world_of subs items clock)).answer ≡ Ok bytes →
+    republished = holds (λ (subs : SubscriptionsState) (items : ItemsState). (clock : Moment) (session number wanted : ℕ) (bytes : List ℕ) → (republished session number wanted (stage_of subs items clock)).answer ≡ Ok bytes →
         IsAmong (record { number = wanted; bytes = bytes }) (messages_for number made)) (messages_given_again config moves);
     shown = always KeepsWhatItShows shows_kept;
   }

@@ -73,7 +73,7 @@ goes_on before moves after rows given p so_far replies = let w = p so_far replie
 one_call : {A : Type 0} (state : Services) (own : A → List Reply) (s : Said A) (move : Move) →
     ((so_far : List Fired) (replies : List Reply) → moved (ran_at state so_far replies) move ≡ ran_by (ran_at state so_far replies) s) → ComesOnBy state (move ∷ []) (called state own s)
 one_call state own s move f so_far replies =
-    let round = s.outcome.world.round in
+    let round = s.outcome.stage.round in
     record {
       answers = round.replies;
       left = f so_far replies ∙ ap (λ (rows : List Fired). ran_at (called state own s).state (so_far ++ rows) (replies ++ round.replies)) (sym (rows_of_round state.subs.halted round));

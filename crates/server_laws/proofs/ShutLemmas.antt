@@ -17,7 +17,7 @@ use Rattle.ua_space.specs.Nodes.{SpaceState}
 use Rattle.ua_monitored_items.specs.ItemTables.{item_at}
 use Rattle.ua_monitored_items.specs.declared.item.Item.{Item}
 use Rattle.ua_session.specs.Sessions.{ended_by}
-use Rattle.ua_subscriptions.specs.SubscriptionCalls.{world_of}
+use Rattle.ua_subscriptions.specs.SubscriptionCalls.{stage_of}
 use Rattle.ua_subscriptions.specs.Tables.{TableState, subscription_at}
 use Rattle.ua_subscriptions.specs.declared.subscription.Subscription.{Subscription}
 use Rattle.ua_subscriptions.proofs.Shutdowns.{nothing_left}
@@ -31,7 +31,7 @@ use Rattle.server_core.specs.Coherent.{reached, IfRuns}
 use Rattle.server_core.specs.Effects.{Effect}
 use Rattle.server_core.specs.Handling.{setting_at}
 use Rattle.server_core.specs.Stepping as stepping
-use Rattle.server_core.specs.Stepping.{Served, served, fed_to, fed, step_of}
+use Rattle.server_core.specs.Stepping.{WorldStep, world_step, fed_to, fed, step_of}
 use Rattle.server_core.specs.World.{opening}
 use Rattle.server_core.specs.declared.event.Event.{Event}
 use Rattle.server_core.specs.declared.event.Event.TheVariants.{Opened, Bytes, Gone, Tick, Shutdown}
@@ -77,13 +77,13 @@ ticked_empty world now h is =
 
 none_left : (setting : Setting) (services : Services) → (shutting_of setting services).state.subs.table.subscriptions ≡ []
 none_left setting services =
-    sym (ap (λ (r : Ran). r.subs.table.subscriptions) (shutting_on setting services [] []).left) ∙ ap (λ (t : TableState). t.subscriptions) (nothing_left (world_of services.subs services.items setting.clock))
+    sym (ap (λ (r : Ran). r.subs.table.subscriptions) (shutting_on setting services [] []).left) ∙ ap (λ (t : TableState). t.subscriptions) (nothing_left (stage_of services.subs services.items setting.clock))
 
 shut_empty : (world : World) → EndsEmpty world → EndsEmpty (stepping.shut_down world).world
 unfolding stepping.shut_down
 shut_empty world h = by world.core.is_shut
   where
-    by : (b : Bool) → EndsEmpty (cond b (served world []) (stepping.ended world)).world
+    by : (b : Bool) → EndsEmpty (cond b (world_step world []) (stepping.ended world)).world
     by true = h
     by false = λ is. ((λ conn. get-empty nat_cmp conn), none_left world.core.setting world.core.services)
 
@@ -101,10 +101,10 @@ fed_empty world conn piece h = by (get world.framers conn) refl (ap (λ (w : Wor
 
 -- ---- any event
 
-abbrev Left : Result Served StepFault → Type 0
+abbrev Left : Result WorldStep StepFault → Type 0
 Left r = Kept EndsEmpty (λ (effects : List Effect). ⊤) r
 
-either : (b : Bool) (x y : Result Served StepFault) → Left x → Left y → Left (cond b x y)
+either : (b : Bool) (x y : Result WorldStep StepFault) → Left x → Left y → Left (cond b x y)
 either true x y p q = p
 either false x y p q = q
 
@@ -128,7 +128,7 @@ step_empty world (Opened conn key) h =
     either (not (is_new world.core.connections conn)) (Err KnownConnection) (Ok (stepping.opened_by world conn key (stepping.refusal_of world))) tt (opened_empty world conn key h (stepping.refusal_of world) refl)
 step_empty world (Bytes conn bytes) h = either (is_known world.core.connections conn) (Ok (fed world conn bytes)) (Err UnknownConnection) (fed_empty world conn bytes h, tt) tt
 step_empty world (Gone conn) h =
-    either (is_known world.core.connections conn) (Ok (served (stepping.forgotten world conn) [])) (Err UnknownConnection) ((λ is. let empty = h is in ((λ q. gone_at world.framers conn q (empty.0 q)), empty.1)), tt) tt
+    either (is_known world.core.connections conn) (Ok (world_step (stepping.forgotten world conn) [])) (Err UnknownConnection) ((λ is. let empty = h is in ((λ q. gone_at world.framers conn q (empty.0 q)), empty.1)), tt) tt
 step_empty world (Tick now) h = (ticked_empty world now h, tt)
 step_empty world Shutdown h = (shut_empty world h, tt)
 

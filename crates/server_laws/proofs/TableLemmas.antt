@@ -32,7 +32,7 @@ use Rattle.server_core.specs.Coherent.{reached, IfRuns}
 use Rattle.server_core.specs.Handling.{asked_for, handled}
 use Rattle.server_core.specs.Running.{Running, joined_effects}
 use Rattle.server_laws.specs.SessionsApart.{KeepsSessionsApart, ServesByFrames, SessionsStayApart}
-use Rattle.server_core.specs.Stepping.{Served, step_of}
+use Rattle.server_core.specs.Stepping.{WorldStep, step_of}
 use Rattle.server_laws.specs.Tables.{rows_of_run, IfShown, LeadTo, StaysSteady, VariablesAreSound, FiresOneRow, TimesOutExactly, NoneTimesOutBesideARequest, ItemsAreOfLive, AnswersStayInSessions, ServesTheBestFirst}
 use Rattle.server_laws.specs.Concern.{concerned, FiresFor, FiresForEach}
 use Rattle.server_laws.specs.Dealings.{event_dealings, dealings_of}
@@ -47,7 +47,7 @@ use Rattle.server_core.specs.declared.out.StepFault.{StepFault}
 -- ---- any event
 
 -- one row fires for each subscription that an event concerns
-for_each_by : (world : World) (event : Event) (r : Result Served StepFault) → Answers Goes follows world (event_dealings world event) r → FiresFor (concerned world event) r
+for_each_by : (world : World) (event : Event) (r : Result WorldStep StepFault) → Answers Goes follows world (event_dealings world event) r → FiresFor (concerned world event) r
 for_each_by world event (Ok s) h =
     let went = goes world.core.services (event_moves world event) s.world.core.services (flat_map posted_at (event_dealings world event)) s.effects h [] [] in
     sym (ap (λ (ran : Ran). map concern_of ran.rows) went.left) ∙ all_from (event_moves world event) (ran_at world.core.services [] [])

@@ -32,7 +32,7 @@ use Rattle.server_core.specs.Effects.{Effect, doing, effects_of}
 use Rattle.server_core.specs.Handling.{closed_on, asked_for, handled, broken, shut_core}
 use Rattle.server_core.specs.Running.{Running, joined_effects, then_run, run_of}
 use Rattle.server_core.specs.Stepping as stepping
-use Rattle.server_core.specs.Stepping.{Served, served, fed_to, fed, step_of}
+use Rattle.server_core.specs.Stepping.{WorldStep, world_step, fed_to, fed, step_of}
 use Rattle.server_core.specs.World.{opening}
 use Rattle.server_core.specs.declared.event.Event.{Event}
 use Rattle.server_core.specs.declared.event.Event.TheVariants.{Opened, Bytes, Gone, Tick, Shutdown}
@@ -145,11 +145,11 @@ module _ (R : Core → List Dealing → List Effect → Core → Type 0) (f : Fo
   -- ---- events
 
   -- unless it is refused
-  abbrev pub Answers : World → List Dealing → Result Served StepFault → Type 0
+  abbrev pub Answers : World → List Dealing → Result WorldStep StepFault → Type 0
   Answers world ds (Ok s) = R world.core ds s.effects s.world.core
   Answers world ds (Err fault) = ⊤
 
-  either : (world : World) (ds : List Dealing) (b : Bool) (x y : Result Served StepFault) → Answers world ds x → Answers world ds y → Answers world ds (cond b x y)
+  either : (world : World) (ds : List Dealing) (b : Bool) (x y : Result WorldStep StepFault) → Answers world ds x → Answers world ds y → Answers world ds (cond b x y)
   either world ds true x y h g = h
   either world ds false x y h g = g
 
@@ -161,7 +161,7 @@ module _ (R : Core → List Dealing → List Effect → Core → Type 0) (f : Fo
       let core : Core = world.core in
       onto core (known_as core.connections conn key Closed) (turned_away core.connections conn key code).outs (λ ranges agreed. opened_agreed core.setting.config core.connections conn key Closed tt agreed)
 
-  by_gone : (world : World) (conn : ℕ) → Answers world (event_dealings world (Gone conn)) (Ok (served (stepping.forgotten world conn) []))
+  by_gone : (world : World) (conn : ℕ) → Answers world (event_dealings world (Gone conn)) (Ok (world_step (stepping.forgotten world conn) []))
   by_gone world conn =
       let core : Core = world.core in
       forgotten conn core (gone core.connections conn) [] (onto core (gone core.connections conn) [] (λ ranges agreed. gone_agreed core.setting.config core.connections conn agreed))
@@ -181,7 +181,7 @@ module _ (R : Core → List Dealing → List Effect → Core → Type 0) (f : Fo
   unfolding stepping.shut_down
   by_shutdown world = by world.core.is_shut
     where
-      by : (b : Bool) → Answers world (cond b [] (dealing world.core Ends ∷ [])) (Ok (cond b (served world []) (stepping.ended world)))
+      by : (b : Bool) → Answers world (cond b [] (dealing world.core Ends ∷ [])) (Ok (cond b (world_step world []) (stepping.ended world)))
       by true = f.none world.core
       by false = by_end_of_all world.core
 
@@ -191,13 +191,13 @@ module _ (R : Core → List Dealing → List Effect → Core → Type 0) (f : Fo
   by_event world (Bytes conn bytes) =
       either world (event_dealings world (Bytes conn bytes)) (is_known world.core.connections conn) (Ok (fed world conn bytes)) (Err UnknownConnection) (by_bytes world conn bytes) tt
   by_event world (Gone conn) =
-      either world (event_dealings world (Gone conn)) (is_known world.core.connections conn) (Ok (served (stepping.forgotten world conn) [])) (Err UnknownConnection) (by_gone world conn) tt
+      either world (event_dealings world (Gone conn)) (is_known world.core.connections conn) (Ok (world_step (stepping.forgotten world conn) [])) (Err UnknownConnection) (by_gone world conn) tt
   by_event world (Tick now) = f.ticks world.core now
   by_event world Shutdown = by_shutdown world
 
   -- ---- runs
 
-  then_events : (world : World) (event : Event) (r : Result Served StepFault) (ds : World → List Dealing) (more : Option World → Running) → Answers world (event_dealings world event) r →
+  then_events : (world : World) (event : Event) (r : Result WorldStep StepFault) (ds : World → List Dealing) (more : Option World → Running) → Answers world (event_dealings world event) r →
       ((next : World) → HasGone R next.core (ds next) (more (Some next))) → HasGone R world.core (dealings_then world event r ds) (then_run (Some world) r more)
   then_events world event (Ok s) ds more h g =
       let rest = g s.world in

@@ -50,8 +50,8 @@ use Rattle.ua_subscriptions.specs.Making.{modified, republished, timed}
 use Rattle.ua_subscriptions.specs.Named.{is_own, named_all, deleted}
 use Rattle.ua_subscriptions.specs.Publishing.{published}
 use Rattle.subscription_laws.specs.Runs.{ItemsCall, items_asked, Move, ran_by, items_ran, moved}
-use Rattle.ua_subscriptions.specs.SubscriptionCalls.{Said, said, told, world_of, created}
-use Rattle.ua_subscriptions.specs.Tables.{World, met, vars_found}
+use Rattle.ua_subscriptions.specs.SubscriptionCalls.{Said, said, without_answer, stage_of, created}
+use Rattle.ua_subscriptions.specs.Tables.{Stage, met, vars_found}
 use Rattle.ua_subscriptions.specs.declared.call.Call.TheVariants as sub_call
 use Rattle.ua_browse.specs.Browsing.{page_size, browse_of}
 use Rattle.ua_session.specs.Sessions.{SessionsState, is_spent, points_of, with_points, create_of, activate_of, find_of, close_of, ticked, ended_by, all_ended}
@@ -82,13 +82,13 @@ use Rattle.ua_services.specs.Read.{read_listed, read_timed, read_meaning}
 use Rattle.ua_services.specs.Republish.{republish_answer, republish_meaning}
 use Rattle.ua_services.specs.Services.{call_of, Service, service_of, served_as, serving_by, serving_of, ticking_of, shutting_of}
 use Rattle.ua_services.specs.declared.services.Services.{Services}
-use Rattle.ua_services.specs.Serving.{Serving, reply_of, answered, served_by}
+use Rattle.ua_services.specs.Serving.{Serving, reply_of, answered_at_once, served_by}
 use Rattle.ua_services.specs.SessionServing.{taken, with_sessions}
 use Rattle.ua_services.specs.SetTriggering.{links_asked, linked_by, linked_counted, items_linked}
 use Rattle.ua_services.specs.SetMonitoringMode.{moded_all, moded_listed, items_moded}
 use Rattle.ua_services.specs.SetPublishingMode.{set_publishing_listed, set_publishing_mode_meaning}
 use Rattle.ua_services.specs.StatusResults.{statuses_body}
-use Rattle.ua_services.specs.SubServing.{world_at, called, no_reply, told_alone, nothing_done, and_then, session_over, timed_out, all_timed_out, timers_met}
+use Rattle.ua_services.specs.SubServing.{stage_at, called, no_reply, called_alone, nothing_done, and_then, session_over, timed_out, all_timed_out, timers_met}
 use Rattle.ua_services.specs.Write.{write_listed, write_meaning}
 use Rattle.ua_services.specs.declared.caller.Caller.{Caller}
 use Rattle.ua_services.specs.declared.history_read.Wanted.{Wanted}
@@ -204,7 +204,7 @@ deleted_asks setting caller request state = deleted_listed_asks setting caller r
 
 -- its subscription fires a row then
 abbrev pub row_after : Setting → ℕ → Services → ItemsState → Vars → Said (Unit {0})
-row_after setting number state items before = told state.subs (met (world_of state.subs items setting.clock) number (sub_call.Items before))
+row_after setting number state items before = without_answer state.subs (met (stage_of state.subs items setting.clock) number (sub_call.Items before))
 
 pub asked_ran : (setting : Setting) (number : ℕ) (state : Services) (items : ItemsState) (asked : Option ItemsCall) → Asks number state.items items asked → (before : Vars) → vars_found number state.items state.subs.table ≡ Some before →
     (so_far : List Fired) (replies : List Reply) → moved (ran_at state so_far replies) (Move.Items setting.clock number asked) ≡ ran_by (ran_at state so_far replies) (row_after setting number state items before)
@@ -228,15 +228,15 @@ module _ (setting : Setting) (R : Services → List Move → Serving → Type 0)
   step_taken state step replies spends is_refused = f.steps state step _ _ (f.still (stepped state step) replies spends is_refused)
 
   -- a call that answers Publish requests alone
-  one_told : (state : Services) (w : World) (move : Move) → ((so_far : List Fired) (replies : List Reply) → moved (ran_at state so_far replies) move ≡ ran_by (ran_at state so_far replies) (told state.subs w)) →
-      R state (move ∷ []) (told_alone state w)
-  unfolding told_alone
-  one_told state w move e = f.calls _ state no_reply (told state.subs w) move e
+  one_told : (state : Services) (w : Stage) (move : Move) → ((so_far : List Fired) (replies : List Reply) → moved (ran_at state so_far replies) move ≡ ran_by (ran_at state so_far replies) (without_answer state.subs w)) →
+      R state (move ∷ []) (called_alone state w)
+  unfolding called_alone
+  one_told state w move e = f.calls _ state no_reply (without_answer state.subs w) move e
 
   -- ---- ticks, and the server's end
 
   over : (deleting : Bool) (number : ℕ) (state : Services) → R state (Move.EndSession setting.clock number deleting ∷ []) (session_over setting deleting number state)
-  over deleting number state = one_told state (session_ended number deleting (world_at setting state)) (Move.EndSession setting.clock number deleting) (λ so_far replies. refl)
+  over deleting number state = one_told state (session_ended number deleting (stage_at setting state)) (Move.EndSession setting.clock number deleting) (λ so_far replies. refl)
 
   all_over : (state : Services) (numbers : List ℕ) (moves : List Move) (s : Serving) → R state moves s → R state (moves ++ map (end_move setting) numbers) (fold (timed_out setting) s numbers)
   unfolding timed_out
@@ -253,13 +253,13 @@ module _ (setting : Setting) (R : Services → List Move → Serving → Type 0)
       let ended = ended_by state.sessions setting.clock in
       let all : Serving = all_timed_out setting at ended in
       f.next at (map (end_move setting) ended) (Move.Timers setting.clock ∷ []) all (timers_met setting) (all_over at ended [] (nothing_done at) (f.still at [] false false))
-      (one_told all.state (timed (world_at setting all.state)) (Move.Timers setting.clock) (λ so_far replies. refl))
+      (one_told all.state (timed (stage_at setting all.state)) (Move.Timers setting.clock) (λ so_far replies. refl))
 
   pub shutting : (state : Services) → R state (shutting_moves setting) (shutting_of setting state)
   unfolding shutting_of
   shutting state =
-      let w = shut_down (world_at setting state) in
-      f.ends state (shutting_moves setting) (told_alone state w) (one_told state w (Move.Shutdown setting.clock) (λ so_far replies. refl))
+      let w = shut_down (stage_at setting state) in
+      f.ends state (shutting_moves setting) (called_alone state w) (one_told state w (Move.Shutdown setting.clock) (λ so_far replies. refl))
 
   -- what it has to have of a Write besides
   abbrev pub OfWrites : Type 0
@@ -312,18 +312,18 @@ module _ (setting : Setting) (R : Services → List Move → Serving → Type 0)
     publishing_listed_so : (session : ℕ) (enabled : Bool) (state : Services) (r : Result (List ℕ) Status) →
         R state (if_listed (λ (numbers : List ℕ). Move.SetMode setting.clock session numbers enabled ∷ []) r) (set_publishing_listed setting caller session enabled state r)
     publishing_listed_so session enabled state (Ok numbers) =
-        f.calls _ state (λ statuses. reply_of caller (statuses_body SET_PUBLISHING_MODE_RESPONSE setting caller statuses) ∷ []) (said state.subs (named_all session (sub_call.SetMode enabled) (world_at setting state) numbers)) _ (λ so_far replies. refl)
+        f.calls _ state (λ statuses. reply_of caller (statuses_body SET_PUBLISHING_MODE_RESPONSE setting caller statuses) ∷ []) (said state.subs (named_all session (sub_call.SetMode enabled) (stage_at setting state) numbers)) _ (λ so_far replies. refl)
     publishing_listed_so session enabled state (Err code) = refused state _
 
     deleted_so : (session : ℕ) (state : Services) (r : Result (List ℕ) Status) → R state (if_listed (λ (numbers : List ℕ). Move.Delete setting.clock session numbers ∷ []) r) (delete_subscriptions_listed setting caller session state r)
     deleted_so session state (Ok numbers) =
-        f.calls _ state (λ statuses. reply_of caller (statuses_body DELETE_SUBSCRIPTIONS_RESPONSE setting caller statuses) ∷ []) (said state.subs (deleted session (world_at setting state) numbers)) _ (λ so_far replies. refl)
+        f.calls _ state (λ statuses. reply_of caller (statuses_body DELETE_SUBSCRIPTIONS_RESPONSE setting caller statuses) ∷ []) (said state.subs (deleted session (stage_at setting state) numbers)) _ (λ so_far replies. refl)
     deleted_so session state (Err code) = refused state _
 
     publish_so : (session : ℕ) (request : PublishRequest) (state : Services) → R state (publish_moves setting caller session request state) (publish_meaning setting caller session request state)
     publish_so session request state =
         let acks = or_none request.subscription_acknowledgements in
-        either _ _ _ _ _ (refused state _) (one_told state (published session (publish_call caller) acks (world_at setting state)) (Move.Publish setting.clock session (publish_call caller) acks) (λ so_far replies. refl))
+        either _ _ _ _ _ (refused state _) (one_told state (published session (publish_call caller) acks (stage_at setting state)) (Move.Publish setting.clock session (publish_call caller) acks) (λ so_far replies. refl))
 
     module _ (number : ℕ) (state : Services) (done : Itemed) (asked : Option ItemsCall) (asks : Asks number state.items done.items asked) where
       vars_so : (found : Option Vars) → vars_found number state.items state.subs.table ≡ found → R state (items_moves_by setting number asked found) (items_called_by setting caller number state done found)
@@ -360,7 +360,7 @@ module _ (setting : Setting) (R : Services → List Move → Serving → Type 0)
         let step = SessionStep.Close token caller.origin.conn in
         let at = stepped state step in
         let gone : Serving = session_over setting deleting number at in
-        f.steps state step _ _ (f.next at (Move.EndSession setting.clock number deleting ∷ []) [] gone (λ (after : Services). answered after caller (close_session_body setting caller)) (over deleting number at) (f.still gone.state _ false false))
+        f.steps state step _ _ (f.next at (Move.EndSession setting.clock number deleting ∷ []) [] gone (λ (after : Services). answered_at_once after caller (close_session_body setting caller)) (over deleting number at) (f.still gone.state _ false false))
     closed_so deleting (Err code) = step_taken state (SessionStep.Close token caller.origin.conn) _ false true
 
     found_so : (serve : ℕ → Services → Serving) (moves : ℕ → Services → List Move) → ((number : ℕ) (after : Services) → R after (moves number after) (serve number after)) → (answer : Result ℕ Status) →
@@ -408,11 +408,11 @@ module _ (setting : Setting) (R : Services → List Move → Serving → Type 0)
     picked_so writes fields (Some Service.SetTriggering) = by_items (λ (r : SetTriggeringRequest). r.subscription_id) items_linked link_asked (linked_asks setting caller) (fields_of set_triggering_request_reading fields)
     picked_so writes fields (Some Service.DeleteMonitoredItems) = by_items (λ (r : DeleteMonitoredItemsRequest). r.subscription_id) items_deleted delete_asked (deleted_asks setting caller) (fields_of delete_monitored_items_request_reading fields)
     picked_so writes fields (Some Service.CreateSubscription) = by_session create_subscription_meaning (create_subscription_moves setting) (λ session request after. f.calls _ after (λ answer. reply_of caller (create_subscription_body setting caller answer) ∷ []) (created session (settings_asked request) request.publishing_enabled after.subs after.items setting.clock) _ (λ so_far replies. refl)) (fields_of create_subscription_request_reading fields)
-    picked_so writes fields (Some Service.ModifySubscription) = by_session modify_subscription_meaning (modify_subscription_moves setting) (λ session request after. f.calls _ after (λ answer. reply_of caller (modify_subscription_body setting caller answer) ∷ []) (said after.subs (modified session request.subscription_id (settings_wanted request) (world_at setting after))) _ (λ so_far replies. refl)) (fields_of modify_subscription_request_reading fields)
+    picked_so writes fields (Some Service.ModifySubscription) = by_session modify_subscription_meaning (modify_subscription_moves setting) (λ session request after. f.calls _ after (λ answer. reply_of caller (modify_subscription_body setting caller answer) ∷ []) (said after.subs (modified session request.subscription_id (settings_wanted request) (stage_at setting after))) _ (λ so_far replies. refl)) (fields_of modify_subscription_request_reading fields)
     picked_so writes fields (Some Service.SetPublishingMode) = by_session set_publishing_mode_meaning (set_publishing_mode_moves setting) (λ session request after. publishing_listed_so caller session request.publishing_enabled after (operations_of setting.config request.subscription_ids)) (fields_of set_publishing_mode_request_reading fields)
     picked_so writes fields (Some Service.DeleteSubscriptions) = by_session delete_subscriptions_meaning (delete_subscriptions_moves setting) (λ session request after. deleted_so caller session after (operations_of setting.config request.subscription_ids)) (fields_of delete_subscriptions_request_reading fields)
     picked_so writes fields (Some Service.Publish) = by_session publish_meaning (publish_moves setting caller) (publish_so caller) (fields_of publish_request_reading fields)
-    picked_so writes fields (Some Service.Republish) = by_session republish_meaning (republish_moves setting) (λ session request after. f.calls _ after (λ answer. reply_of caller (republish_answer setting caller answer) ∷ []) (said after.subs (republished session request.subscription_id request.retransmit_sequence_number (world_at setting after))) _ (λ so_far replies. refl)) (fields_of republish_request_reading fields)
+    picked_so writes fields (Some Service.Republish) = by_session republish_meaning (republish_moves setting) (λ session request after. f.calls _ after (λ answer. reply_of caller (republish_answer setting caller answer) ∷ []) (said after.subs (republished session request.subscription_id request.retransmit_sequence_number (stage_at setting after))) _ (λ so_far replies. refl)) (fields_of republish_request_reading fields)
     picked_so writes fields None = refused state _
 
   by_header : OfWrites → (request : Request) (state : Services) (id : Result ℕ TakeFault) (headed : Result Headed TakeFault) → R state (serving_moves_by setting request state id headed) (serving_by setting request state id headed)

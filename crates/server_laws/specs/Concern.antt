@@ -6,7 +6,7 @@ use Rattle.subscription_laws.specs.Runs.{of_run}
 use Rattle.server_laws.specs.EventMoves.{event_moves}
 use Rattle.server_laws.specs.Moving.{ran_at}
 use Rattle.server_core.specs.Effects.{fired_of}
-use Rattle.server_core.specs.Stepping.{Served, step_of}
+use Rattle.server_core.specs.Stepping.{WorldStep, step_of}
 use Rattle.server_core.specs.declared.world.World.{World}
 use Rattle.server_core.specs.declared.event.Event.{Event}
 use Rattle.server_core.specs.declared.out.StepFault.{StepFault}
@@ -19,7 +19,7 @@ abbrev pub concerned : World → Event → List Concern
 concerned world event = of_run calls.concerned (ran_at world.core.services [] []) (event_moves world event)
 
 -- one row fires for each of these, in their order, and no other; a refused event fires none
-abbrev pub FiresFor : List Concern → Result Served StepFault → Type 0
+abbrev pub FiresFor : List Concern → Result WorldStep StepFault → Type 0
 FiresFor concerns (Ok s) = AreTheRowsFor concerns (fired_of s.effects)
 FiresFor concerns (Err fault) = ⊤
 

@@ -15,7 +15,7 @@ use Rattle.server_connections.specs.declared.connections.Connections.{Connection
 use Rattle.server_connections.specs.declared.frame_outcome.FrameOutcome.{FrameOutcome}
 use Rattle.server_connections.specs.declared.frame_outcome.FrameOutcome.TheVariants as outcome
 use Rattle.server_core.specs.Handling.{setting_at, handled}
-use Rattle.server_core.specs.Stepping.{Served, step_of}
+use Rattle.server_core.specs.Stepping.{WorldStep, step_of}
 use Rattle.server_core.specs.World.{opening}
 use Rattle.server_core.specs.declared.event.Event.{Event}
 use Rattle.server_core.specs.declared.event.Event.TheVariants.{Opened, Bytes, Gone, Tick, Shutdown}
@@ -90,7 +90,7 @@ event_dealings world (Gone conn) = let core : Core = world.core in dealing (with
 event_dealings world (Tick now) = let core : Core = world.core in dealing (with_clock core (later core.setting.clock now)) Ticks ∷ []
 event_dealings world Shutdown = let core : Core = world.core in if core.is_shut then [] else dealing core Ends ∷ []
 
-abbrev pub dealings_then : World → Event → Result Served StepFault → (World → List Dealing) → List Dealing
+abbrev pub dealings_then : World → Event → Result WorldStep StepFault → (World → List Dealing) → List Dealing
 dealings_then world event (Ok s) more = event_dealings world event ++ more s.world
 dealings_then world event (Err fault) more = []
 

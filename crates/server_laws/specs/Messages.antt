@@ -5,7 +5,7 @@ use Rattle.ua_types.specs.Configuration.{Configuration}
 use Rattle.ua_types.specs.declared.moment.Moment.{Moment}
 use Rattle.ua_space.specs.Nodes.{SpaceState}
 use Rattle.ua_subscriptions.specs.Making.{republished}
-use Rattle.ua_subscriptions.specs.SubscriptionCalls.{world_of}
+use Rattle.ua_subscriptions.specs.SubscriptionCalls.{stage_of}
 use Rattle.ua_subscriptions.specs.Tables.{TableState, subscription_at}
 use Rattle.ua_subscriptions.specs.declared.subscription.Subscription.{Subscription}
 use Rattle.subscription_laws.specs.Messaging.{Made, run_made, messages_for, IsAmong, AllAreNumbered, NotesComeNext}
@@ -31,7 +31,7 @@ KeepsWhatWasMade made world = (number wanted : ℕ) (bytes : List ℕ) → kept_
 -- and what Republish gives, whenever and to whichever session, is so, too
 abbrev pub GivesAgainWhatWasMade : List Made → World → Type 0
 GivesAgainWhatWasMade made world = (clock : Moment) (session number wanted : ℕ) (bytes : List ℕ) → let services : Services = world.core.services in
-    (republished session number wanted (world_of services.subs services.items clock)).answer ≡ Ok bytes →
+    (republished session number wanted (stage_of services.subs services.items clock)).answer ≡ Ok bytes →
     IsAmong (record { number = wanted; bytes = bytes }) (messages_for number made)
 
 -- under each number that it shows it keeps a message

@@ -18,7 +18,7 @@ use Rattle.ua_monitored_items.specs.Moves as item_moves
 use Rattle.ua_monitored_items.specs.Moves.{account_of}
 use Rattle.ua_subscriptions.specs.declared.messages.KeptMessage.{KeptMessage}
 use Rattle.ua_subscriptions.specs.Making.{republished}
-use Rattle.ua_subscriptions.specs.SubscriptionCalls.{world_of}
+use Rattle.ua_subscriptions.specs.SubscriptionCalls.{stage_of}
 use Rattle.subscription_laws.specs.ItemCalls.{item_calls}
 use Rattle.subscription_laws.specs.MessageContents.{Taken, IsMadeOf, all_taken}
 use Rattle.subscription_laws.specs.Messaging.{Made, IsAmong, messages_for}
@@ -88,7 +88,7 @@ pub record IsBrought (config : Configuration) (space : SpaceState) (events : Lis
   pub notes : IsMadeOf b.message b.taken
   pub kept : IsAlone b.message (made_by config space events) → (bytes : List ℕ) → kept_on (Some world) b.message.subscription b.message.message.number ≡ Some bytes → bytes ≡ b.message.message.bytes
   pub republished : IsAlone b.message (made_by config space events) → (clock : Moment) (session : ℕ) (bytes : List ℕ) → let services : Services = world.core.services in
-      (republished session b.message.subscription b.message.message.number (world_of services.subs services.items clock)).answer ≡ Ok bytes → bytes ≡ b.message.message.bytes
+      (republished session b.message.subscription b.message.message.number (stage_of services.subs services.items clock)).answer ≡ Ok bytes → bytes ≡ b.message.message.bytes
 
 -- ---- why a value is gone
 

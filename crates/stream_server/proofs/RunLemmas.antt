@@ -15,7 +15,7 @@ use Rattle.server_core.specs.declared.out.StepFault.{StepFault}
 use Rattle.server_core.specs.declared.out.StepFault.TheVariants.{KnownConnection, UnknownConnection, Memory, Halted, Exhausted}
 use Rattle.server_core.specs.Effects.{outs_of, shown}
 use Rattle.server_core.specs.Running.{Joined, joined_as, heard_run, joined, sent_bytes, closes, is_close}
-use Rattle.server_core.specs.Stepping.{Served, step_on, StepsTo, answer_by, server_by}
+use Rattle.server_core.specs.Stepping.{WorldStep, step_on, StepsTo, answer_by, server_by}
 use Rattle.server_core.proofs.EffectLemmas.{outs_of-append}
 use Rattle.server_core.proofs.RecutLemmas.{behind, heard_both, heard_piece}
 use Rattle.stream_server.specs.declared.PumpFault.{PumpFault}
@@ -176,12 +176,12 @@ Answer = answers.Step core_step.Step StepFault State
 
 -- what the definition says of it
 pub record IsAnswered (s t : State) (conn : ℕ) (p : List ℕ) (x : core_step.Step) : Type 0 where
-  pub said : Served
+  pub said : WorldStep
   pub is : step_on s (Bytes conn p) ≡ Ok said
   pub given : shown said.effects ≡ x
   pub server : Some said.world ≡ t
 
-answered_by : (s t : State) (conn : ℕ) (p : List ℕ) (x : core_step.Step) (r : Result Served StepFault) → step_on s (Bytes conn p) ≡ r →
+answered_by : (s t : State) (conn : ℕ) (p : List ℕ) (x : core_step.Step) (r : Result WorldStep StepFault) → step_on s (Bytes conn p) ≡ r →
     answers.step (Ok x) t ≡ answers.step (answer_by r) (server_by s r) → IsAnswered s t conn p x
 answered_by s t conn p x (Ok said) is e = record {
   said = said;
@@ -297,7 +297,7 @@ fault_or : StepFault → Result core_step.Step StepFault → StepFault
 fault_or f (Ok x) = f
 fault_or f (Err g) = g
 
-refused_by : (s new : State) (fault : StepFault) (r : Result Served StepFault) → answers.step (Err fault) new ≡ answers.step (answer_by r) (server_by s r) → (r ≡ Err fault) × (new ≡ s)
+refused_by : (s new : State) (fault : StepFault) (r : Result WorldStep StepFault) → answers.step (Err fault) new ≡ answers.step (answer_by r) (server_by s r) → (r ≡ Err fault) × (new ≡ s)
 unfolding fault_or
 refused_by s new fault (Ok said) e = absurd (false≢true (ap (λ (y : Answer). is_ok y.answer) e))
 refused_by s new fault (Err g) e = (sym (ap (λ (y : Answer). Err (fault_or fault y.answer)) e), ap (λ (y : Answer). y.state) e)

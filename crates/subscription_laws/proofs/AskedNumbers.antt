@@ -11,7 +11,7 @@ use Rattle.ua_subscriptions.specs.declared.ranks.Rank.{Rank}
 use Rattle.ua_subscriptions.specs.declared.subscription.Subscription.{Subscription}
 use Rattle.ua_subscriptions.specs.Queues.{first_of}
 use Rattle.ua_subscriptions.specs.Ranks.{rank_cmp, rank_of, number_of, with_rank, is_waiting, waiting_by, waiting_of}
-use Rattle.ua_subscriptions.specs.Tables.{World, subscription_at}
+use Rattle.ua_subscriptions.specs.Tables.{Stage, subscription_at}
 use Rattle.subscription_laws.specs.Calm.{is_listed}
 use Rattle.subscription_laws.specs.Precedence.{and_then}
 use Rattle.ua_subscriptions.specs.Publishing.{best_or_all, asked_numbers}
@@ -148,7 +148,7 @@ module _ (R : ℕ → Type 0) where
   best_is [] ns all its = its
   best_is (r ∷ rs) ns all its = (all.0, tt)
 
-  pub asked_are : (w : World) (ns : List ℕ) → AllByRecursion R ns → AllByRecursion R (asked_numbers w ns)
+  pub asked_are : (w : Stage) (ns : List ℕ) → AllByRecursion R ns → AllByRecursion R (asked_numbers w ns)
   asked_are w ns its = best_is (waiting_of w.table.subscriptions ns) ns (all_are w.table.subscriptions ns (all_so R (IfWaits w.table.subscriptions) (λ n its s found waits. its) ns its)) its
 
   -- of the best that waits

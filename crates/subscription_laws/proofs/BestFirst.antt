@@ -33,13 +33,13 @@ use Rattle.ua_subscriptions.specs.Queues.{first_of}
 use Rattle.ua_subscriptions.specs.Ranks.{rank_cmp, rank_of, with_rank, is_waiting, waiting_by, with_waiting, waiting_of, is_due, due_rank, due_of, due_numbers}
 use Rattle.ua_subscriptions.specs.Messages.{number_after}
 use Rattle.ua_subscriptions.specs.Scenes.{Scene, noting, subscription_noted, note_sent, life_reset}
-use Rattle.ua_subscriptions.specs.SubscriptionCalls.{world_of}
-use Rattle.ua_subscriptions.specs.Tables.{World, with_call, without_closed, met_found, met, part_at, subscription_at}
+use Rattle.ua_subscriptions.specs.SubscriptionCalls.{stage_of}
+use Rattle.ua_subscriptions.specs.Tables.{Stage, met, part_at, subscription_at, scene_at, met_by}
 use Rattle.ua_subscriptions.proofs.Choosing.{either}
 use Rattle.subscription_laws.specs.Actions.{rest_notings}
 use Rattle.subscription_laws.specs.Calm.{AreRising, is_listed}
 use Rattle.subscription_laws.specs.Concern.{subscription_of, concerns_at}
-use Rattle.subscription_laws.specs.Encounters.{Asks, Encounter, Meets, Does, scene_at, meets_by, all_meet, asked_encounters, noted_encounters}
+use Rattle.subscription_laws.specs.Encounters.{Asks, Encounter, Meets, Does, meets_by, all_meet, asked_encounters, noted_encounters}
 use Rattle.subscription_laws.specs.Numbering.{note_made}
 use Rattle.subscription_laws.specs.Precedence.{precedence, IsBest, AreAllBestFirst, WaitsIn, IsDueAt, IsAnswered, IsGivenToTheBest, ComesToTheBest, ComesBestFirst}
 use Rattle.subscription_laws.specs.Runs.{Move, run}
@@ -224,20 +224,20 @@ none_passed_over clock subscriptions number s found due = all_in (due_rank clock
 
 -- ---- each is met
 
-met_other : (w : World) (n : ℕ) (asked : Call) (m : ℕ) → m ≢ n → subscription_at m (met w n asked).table.subscriptions ≡ subscription_at m w.table.subscriptions
+met_other : (w : Stage) (n : ℕ) (asked : Call) (m : ℕ) → m ≢ n → subscription_at m (met w n asked).table.subscriptions ≡ subscription_at m w.table.subscriptions
 unfolding met
 met_other w n asked m other = by (subscription_at n w.table.subscriptions)
   where
-    by : (o : Option Subscription) → subscription_at m (without_closed n (met_found (with_call w.round n asked) w.table.subscriptions w.table.sessions w.items o)).table.subscriptions ≡ subscription_at m w.table.subscriptions
+    by : (o : Option Subscription) → subscription_at m (met_by w n asked o).table.subscriptions ≡ subscription_at m w.table.subscriptions
     by None = refl
     by (Some s) = back_other n m (fired (scene_at w n asked s)).subscription w.table.subscriptions other
 
 module _ (asked : Call) where
-  one_numbered : (n : ℕ) (w : World) (more : List Encounter) (o : Option Subscription) → is_some o ≡ true → map subscription_of (flat_map concerns_at (meets_by w n asked o ++ more)) ≡ n ∷ map subscription_of (flat_map concerns_at more)
+  one_numbered : (n : ℕ) (w : Stage) (more : List Encounter) (o : Option Subscription) → is_some o ≡ true → map subscription_of (flat_map concerns_at (meets_by w n asked o ++ more)) ≡ n ∷ map subscription_of (flat_map concerns_at more)
   one_numbered n w more None e = absurd (false≢true e)
   one_numbered n w more (Some s) e = refl
 
-  all_numbered : (Such : ℕ → Subscription → Type 0) (subscriptions : List (ℕ × Subscription)) (ns : List ℕ) (w : World) → AreAllBestFirst Such subscriptions ns →
+  all_numbered : (Such : ℕ → Subscription → Type 0) (subscriptions : List (ℕ × Subscription)) (ns : List ℕ) (w : Stage) → AreAllBestFirst Such subscriptions ns →
       ((m : ℕ) (s : Subscription) → subscription_at m subscriptions ≡ Some s → Such m s → is_some (subscription_at m w.table.subscriptions) ≡ true) → map subscription_of (flat_map concerns_at (all_meet None asked w ns)) ≡ ns
   all_numbered Such subscriptions [] w h live = refl
   all_numbered Such subscriptions (n ∷ ns) w h live =
@@ -250,7 +250,7 @@ each_is_met config moves clock =
     let r = run config moves in
     let subscriptions = r.subs.table.subscriptions in
     let h = all_best_first subscriptions (due_of clock subscriptions) (IsDueAt clock) (all_due clock subscriptions (sessions_list config moves).subscriptions) in
-    subst (AreAllBestFirst (IsDueAt clock) subscriptions) (sym (all_numbered call.Timer (IsDueAt clock) subscriptions (due_numbers clock subscriptions) (world_of r.subs r.items clock) h (λ m s found due. ap is_some found))) h
+    subst (AreAllBestFirst (IsDueAt clock) subscriptions) (sym (all_numbered call.Timer (IsDueAt clock) subscriptions (due_numbers clock subscriptions) (stage_of r.subs r.items clock) h (λ m s found due. ap is_some found))) h
 
 -- ---- a Publish request is given to the best that waits
 
@@ -307,12 +307,12 @@ module _ (asked : PublishCall) (c : Scene) (is : c.round.asked ≡ Some asked) w
 abbrev IsMetAlone : ℕ → PublishCall → List Encounter → Type 0
 IsMetAlone number asked es = (map subscription_of (flat_map concerns_at es) ≡ number ∷ []) × IsAnswered asked (flat_map told_at es)
 
-met_alone : (u : World) (n : ℕ) (asked : PublishCall) (s : Subscription) → u.round.asked ≡ Some asked → subscription_at n u.table.subscriptions ≡ Some s → is_waiting s ≡ true → IsMetAlone n asked (all_meet None call.Publish u (n ∷ []))
+met_alone : (u : Stage) (n : ℕ) (asked : PublishCall) (s : Subscription) → u.round.asked ≡ Some asked → subscription_at n u.table.subscriptions ≡ Some s → is_waiting s ≡ true → IsMetAlone n asked (all_meet None call.Publish u (n ∷ []))
 met_alone u n asked s is found waits =
     let c = scene_at u n call.Publish s in
     subst (λ (o : Option Subscription). IsMetAlone n asked (meets_by u n call.Publish o ++ [])) (sym found) (refl, and_more asked (told_at (Meets c)) [] (waiting_answers asked c is s.state (answers (vars_in c)) waits))
 
-asked_best : (ns : List ℕ) (asked : PublishCall) (w : World) (rank : Rank) (ranks : List Rank) → waiting_of w.table.subscriptions ns ≡ rank ∷ ranks → IsMetAlone rank.number asked (asked_encounters ns asked w)
+asked_best : (ns : List ℕ) (asked : PublishCall) (w : Stage) (rank : Rank) (ranks : List Rank) → waiting_of w.table.subscriptions ns ≡ rank ∷ ranks → IsMetAlone rank.number asked (asked_encounters ns asked w)
 asked_best [] asked w rank ranks e = absurd (cc)
 asked_best (n ∷ ns) asked w rank ranks e =
     let subscriptions = w.table.subscriptions in
@@ -322,10 +322,10 @@ asked_best (n ∷ ns) asked w rank ranks e =
     subst (λ (all : List Rank). IsMetAlone rank.number asked (Does w (Asks asked) ∷ all_meet None call.Publish (asked_by w asked) (best_or_all (first_of all) (n ∷ ns)))) (sym e) m
 
 module _ (config : Configuration) (moves : List Move) (clock : Moment) (session : ℕ) (asked : PublishCall) (acks : List SubscriptionAcknowledgement) where
-  abbrev w : World
-  w = world_of (run config moves).subs (run config moves).items clock
+  abbrev w : Stage
+  w = stage_of (run config moves).subs (run config moves).items clock
 
-  abbrev v : World
+  abbrev v : Stage
   v = ready session acks w
 
   -- the request with what became of its acknowledgements

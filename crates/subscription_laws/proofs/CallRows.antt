@@ -5,16 +5,16 @@ use Rattle.std.specs.List.{flat_map}
 use Rattle.server_messages.specs.declared.fired.Fired.{Fired}
 use Rattle.ua_subscriptions.specs.Making.{refused_one, added}
 use Rattle.ua_subscriptions.specs.Named.{all_refused}
-use Rattle.ua_subscriptions.specs.Tables.{World}
+use Rattle.ua_subscriptions.specs.Tables.{Stage}
 use Rattle.subscription_laws.specs.Encounters.{Beside, CallsItems, beside, Encounter, Does, rows_at, rows_of}
 use Rattle.subscription_laws.specs.Runs.{Move, Ran, moved}
 use Rattle.subscription_laws.proofs.Firings.{fired_rows}
 use Rattle.subscription_laws.proofs.Walks.{left_is, Follows, FollowsMaking, Any, any_begins, walked}
 
-abbrev Rows : World → List Encounter → World → Type 0
+abbrev Rows : Stage → List Encounter → Stage → Type 0
 Rows w es v = v.round.rows ≡ w.round.rows ++ flat_map rows_at es
 
-rows_beside : (w : World) (b : Beside) → Rows w (Does w b ∷ []) (beside w b)
+rows_beside : (w : Stage) (b : Beside) → Rows w (Does w b ∷ []) (beside w b)
 unfolding all_refused
 rows_beside w (CallsItems number asked) = sym (append-nil w.round.rows)
 rows_beside w b = sym (append-nil w.round.rows)

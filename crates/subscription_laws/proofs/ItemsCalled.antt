@@ -17,12 +17,12 @@ use Rattle.ua_subscriptions.specs.Firing.{row_of, fired}
 use Rattle.ua_subscriptions.specs.Making.{refused_one, added}
 use Rattle.ua_subscriptions.specs.Named.{all_refused}
 use Rattle.ua_subscriptions.specs.Scenes.{Scene, Noting, noting, sending, note_sent, with_asked, rest_sent, notes_sent, done, all_done, row_done}
-use Rattle.ua_subscriptions.specs.Tables.{World}
-use Rattle.subscription_laws.specs.Encounters.{Beside, CallsItems, ShowsItems, beside, Encounter, Meets, Does, scene_at, made_scene}
+use Rattle.ua_subscriptions.specs.Tables.{Stage, scene_at}
+use Rattle.subscription_laws.specs.Encounters.{Beside, CallsItems, ShowsItems, beside, Encounter, Meets, Does, made_scene}
 use Rattle.subscription_laws.specs.Actions.{of_actions, rest_notings, notings}
 use Rattle.subscription_laws.specs.ItemCalls.{note_call, action_calls, row_calls, calls_at, calls_of, item_calls, ItemsComeByTheirCalls}
 use Rattle.subscription_laws.specs.Runs.{Move, Ran, start, moved, run, of_run}
-use Rattle.ua_subscriptions.specs.SubscriptionCalls.{world_of}
+use Rattle.ua_subscriptions.specs.SubscriptionCalls.{stage_of}
 use Rattle.subscription_laws.proofs.Folds.{of_run-append}
 use Rattle.subscription_laws.proofs.Walks.{left_is, Follows, FollowsMaking, Any, any_begins, walked}
 
@@ -80,10 +80,10 @@ fired_is c = row_is (row_of c) c
 
 -- ---- any call
 
-abbrev pub ItemsCome : World → List Encounter → World → Type 0
+abbrev pub ItemsCome : Stage → List Encounter → Stage → Type 0
 ItemsCome w es v = v.items ≡ after_calls w.items (flat_map calls_at es)
 
-items_beside : (w : World) (b : Beside) → ItemsCome w (Does w b ∷ []) (beside w b)
+items_beside : (w : Stage) (b : Beside) → ItemsCome w (Does w b ∷ []) (beside w b)
 unfolding all_refused
 items_beside w (CallsItems number None) = refl
 items_beside w (CallsItems number (Some asked)) = refl
@@ -93,7 +93,7 @@ items_beside w b = refl
 items_one : (c : Scene) → (fired c).items ≡ after_calls c.items (calls_at (Meets c) ++ [])
 items_one c = fired_is c ∙ ap (after_calls c.items) (sym (append-nil (calls_at (Meets c))))
 
-items_next : (w v u : World) (es fs : List Encounter) → ItemsCome w es v → ItemsCome v fs u → ItemsCome w (es ++ fs) u
+items_next : (w v u : Stage) (es fs : List Encounter) → ItemsCome w es v → ItemsCome v fs u → ItemsCome w (es ++ fs) u
 items_next w v u es fs p q = then_calls w.items v.items u.items (flat_map calls_at es) (flat_map calls_at fs) p q ∙ ap (after_calls w.items) (sym (flat_map-append calls_at es fs))
 
 pub follows_items : Follows Any ItemsCome
@@ -106,16 +106,16 @@ follows_items = record {
   one = λ whose asked w n ns s plain given meant found. items_one (scene_at w n asked s);
 }
 
-items_refused : (session number : ℕ) (settings : Settings) (enabled : Bool) (w : World) → ItemsCome w (Meets (made_scene true number session settings enabled w) ∷ []) (refused_one session settings enabled w)
+items_refused : (session number : ℕ) (settings : Settings) (enabled : Bool) (w : Stage) → ItemsCome w (Meets (made_scene true number session settings enabled w) ∷ []) (refused_one session settings enabled w)
 unfolding refused_one fired row_done
 items_refused session number settings enabled w = refl
 
-items_added : (session number : ℕ) (settings : Settings) (enabled : Bool) (w : World) → ItemsCome w (Meets (made_scene false number session settings enabled w) ∷ []) (added session number settings enabled w)
+items_added : (session number : ℕ) (settings : Settings) (enabled : Bool) (w : Stage) → ItemsCome w (Meets (made_scene false number session settings enabled w) ∷ []) (added session number settings enabled w)
 unfolding added fired row_done
 items_added session number settings enabled w = refl
 
 pub items_making : FollowsMaking ItemsCome
-items_making = record { refuses = items_refused; adds = λ r clock session settings enabled room. items_added session (r.subs.made + 1) settings enabled (world_of r.subs r.items clock) }
+items_making = record { refuses = items_refused; adds = λ r clock session settings enabled room. items_added session (r.subs.made + 1) settings enabled (stage_of r.subs r.items clock) }
 
 pub one_is : (r : Ran) (m : Move) → (moved r m).items ≡ after_calls r.items (calls_of r m)
 one_is r m = (left_is r m).items ∙ walked Any ItemsCome follows_items items_making r m (any_begins r m)

@@ -10,13 +10,12 @@ use Rattle.ua_subscriptions.specs.declared.call.Call.TheVariants.{SessionEnd}
 use Rattle.ua_subscriptions.specs.declared.session_part.SessionSubscriptions.{SessionSubscriptions}
 use Rattle.ua_subscriptions.specs.declared.subscription.Subscription.{Subscription}
 use Rattle.subscription_laws.specs.Calm.{AreNumbersRising, is_listed}
-use Rattle.subscription_laws.specs.Encounters.{scene_at}
 use Rattle.ua_subscriptions.specs.Ending.{without_session, session_ended}
 use Rattle.ua_subscriptions.specs.Firing.{is_closed, fired}
 use Rattle.ua_subscriptions.specs.Named.{without_requests, all_refused}
 use Rattle.ua_subscriptions.specs.Scenes.{row_done}
 use Rattle.ua_subscriptions.specs.Subscriptions.{no_part, is_any}
-use Rattle.ua_subscriptions.specs.Tables.{World, with_call, without_closed, met_found, met, all_met, part_at, subscription_at}
+use Rattle.ua_subscriptions.specs.Tables.{Stage, met, all_met, part_at, subscription_at, scene_at, met_by}
 use Rattle.subscription_laws.proofs.Entries.{listed_first, some_same, behind_it, among, rising_gone}
 use Rattle.subscription_laws.proofs.Keeping.{IsKept, its_own, met_plain}
 use Rattle.subscription_laws.proofs.KeepingParts.{parts_kept, of_gone, set_fewer, fewer_calm}
@@ -24,7 +23,7 @@ use Rattle.subscription_laws.proofs.Settling.{IsPutBack, back_is}
 
 -- ---- requests that wait in vain
 
-pub refused_kept : (except : Option ℕ) (made : ℕ) (past : List Fired) (session : ℕ) (code : Status) (w : World) → IsKept except made past w → IsKept except made past (all_refused session code w)
+pub refused_kept : (except : Option ℕ) (made : ℕ) (past : List Fired) (session : ℕ) (code : Status) (w : Stage) → IsKept except made past w → IsKept except made past (all_refused session code w)
 unfolding all_refused
 refused_kept except made past session code w k =
     let part = without_requests (part_at session w.table.sessions) in
@@ -34,18 +33,18 @@ refused_kept except made past session code w k =
 -- ---- a session ends
 
 -- the subscriptions that are its own yet are among those to be ended, and those are its own, or of none
-record IsEnding (session made : ℕ) (past : List Fired) (ns : List ℕ) (w : World) : Type 0 where
+record IsEnding (session made : ℕ) (past : List Fired) (ns : List ℕ) (w : Stage) : Type 0 where
   kept : IsKept (Some session) made past w
   left : (m : ℕ) (s : Subscription) → subscription_at m w.table.subscriptions ≡ Some s → s.session ≡ Some session → is_listed m ns ≡ true
   of : (m : ℕ) (s : Subscription) → is_listed m ns ≡ true → subscription_at m w.table.subscriptions ≡ Some s → (s.session ≡ Some session) ⊎ (s.session ≡ None)
 
 -- the end of its session closes a subscription, or leaves it without one
-fired_ends : (deleting : Bool) (w : World) (n : ℕ) (s : Subscription) → let d = fired (scene_at w n (SessionEnd deleting) s) in is_closed d.subscription ≡ false → d.subscription.session ≡ None
+fired_ends : (deleting : Bool) (w : Stage) (n : ℕ) (s : Subscription) → let d = fired (scene_at w n (SessionEnd deleting) s) in is_closed d.subscription ≡ false → d.subscription.session ≡ None
 unfolding fired row_done
 fired_ends true w n s live = absurd (cc)
 fired_ends false w n s live = refl
 
-module _ (session made : ℕ) (past : List Fired) (deleting : Bool) (n : ℕ) (ns : List ℕ) (w : World) (h : IsEnding session made past (n ∷ ns) w) where
+module _ (session made : ℕ) (past : List Fired) (deleting : Bool) (n : ℕ) (ns : List ℕ) (w : Stage) (h : IsEnding session made past (n ∷ ns) w) where
   -- what is found after the end was met
   met_left : (m : ℕ) (u : Subscription) → subscription_at m (met w n (SessionEnd deleting)).table.subscriptions ≡ Some u → (u.session ≡ None) ⊎ ((m ≢ n) × (subscription_at m w.table.subscriptions ≡ Some u))
   unfolding met
@@ -60,7 +59,7 @@ module _ (session made : ℕ) (past : List Fired) (deleting : Bool) (n : ℕ) (n
       there s (inr before) = inr before
 
       by : (o : Option Subscription) → subscription_at n w.table.subscriptions ≡ o →
-          subscription_at m (without_closed n (met_found (with_call w.round n (SessionEnd deleting)) w.table.subscriptions w.table.sessions w.items o)).table.subscriptions ≡ Some u →
+          subscription_at m (met_by w n (SessionEnd deleting) o).table.subscriptions ≡ Some u →
           (u.session ≡ None) ⊎ ((m ≢ n) × (subscription_at m w.table.subscriptions ≡ Some u))
       by None none found = inr (absent none found, found)
       by (Some s) is found = there s (back_is n s (fired (scene_at w n (SessionEnd deleting) s)).subscription w.table.subscriptions h.kept.calm.listed.subscriptions is m u found)
@@ -80,12 +79,12 @@ module _ (session made : ℕ) (past : List Fired) (deleting : Bool) (n : ℕ) (n
       of m u listed (inl none) = inr none
       of m u listed (inr (other, before)) = h.of m u (among m n ns listed) before
 
-all_end : (session made : ℕ) (past : List Fired) (deleting : Bool) (ns : List ℕ) (w : World) → IsEnding session made past ns w → IsEnding session made past [] (all_met (SessionEnd deleting) w ns)
+all_end : (session made : ℕ) (past : List Fired) (deleting : Bool) (ns : List ℕ) (w : Stage) → IsEnding session made past ns w → IsEnding session made past [] (all_met (SessionEnd deleting) w ns)
 all_end session made past deleting [] w h = h
 all_end session made past deleting (n ∷ ns) w h = all_end session made past deleting ns (met w n (SessionEnd deleting)) (met_ends session made past deleting n ns w h)
 
 -- nothing of a session is left
-module _ (session made : ℕ) (past : List Fired) (w : World) (k : IsKept (Some session) made past w) (none : (m : ℕ) (s : Subscription) → subscription_at m w.table.subscriptions ≡ Some s → s.session ≢ Some session) where
+module _ (session made : ℕ) (past : List Fired) (w : Stage) (k : IsKept (Some session) made past w) (none : (m : ℕ) (s : Subscription) → subscription_at m w.table.subscriptions ≡ Some s → s.session ≢ Some session) where
   abbrev rest : List (ℕ × SessionSubscriptions)
   rest = remove_entry (is_at (nat_cmp session)) w.table.sessions
 
@@ -110,11 +109,11 @@ module _ (session made : ℕ) (past : List Fired) (w : World) (k : IsKept (Some 
     within = record { within = λ m j listed. k.within.within m j (lists_yet m j listed).1; rising = of_rest (λ (j : ℕ) (p : SessionSubscriptions). AreNumbersRising p.numbers) tt (λ j other. k.within.rising j) };
   }
 
-refused_same : (session : ℕ) (code : Status) (w : World) → (all_refused session code w).table.subscriptions ≡ w.table.subscriptions
+refused_same : (session : ℕ) (code : Status) (w : Stage) → (all_refused session code w).table.subscriptions ≡ w.table.subscriptions
 unfolding all_refused
 refused_same session code w = refl
 
-pub ended_kept : (session made : ℕ) (past : List Fired) (deleting : Bool) (w : World) → IsKept None made past w → IsKept None made past (session_ended session deleting w)
+pub ended_kept : (session made : ℕ) (past : List Fired) (deleting : Bool) (w : Stage) → IsKept None made past w → IsKept None made past (session_ended session deleting w)
 unfolding session_ended
 ended_kept session made past deleting w k =
     let ns = (part_at session w.table.sessions).numbers in

@@ -23,13 +23,12 @@ use Rattle.subscription_laws.specs.Runs.{ItemsCall, on_items, items_asked}
 use Rattle.subscription_laws.specs.Runs.ItemsCall.{Create}
 use Rattle.ua_subscriptions.specs.Scenes.{Scene, row_done}
 use Rattle.subscription_laws.specs.Standings.{Counts, standing, standing_in, circumstances, counts_of}
-use Rattle.subscription_laws.specs.Encounters.{scene_at}
 use Rattle.ua_subscriptions.specs.Subscriptions.{vars_of}
-use Rattle.ua_subscriptions.specs.Tables.{TableState, World, with_call, without_closed, met_found, met, part_of, subscription_at}
+use Rattle.ua_subscriptions.specs.Tables.{TableState, Stage, met, part_of, subscription_at, stage_after, scene_at, met_by}
 use Rattle.subscription_laws.proofs.Availability.{reached_rise, reached_on, reached_stay, shown_available}
 use Rattle.subscription_laws.proofs.ChosenRows.{live_fits}
 use Rattle.subscription_laws.proofs.Firings.{lawful, firing, fired_rows, fired_number, fired_items, fired_numbers, fired_none, life_told}
-use Rattle.subscription_laws.proofs.Keeping.{IsKept, world_after, one_kept, fired_stays}
+use Rattle.subscription_laws.proofs.Keeping.{IsKept, one_kept, fired_stays}
 use Rattle.subscription_laws.proofs.Remains.{AreApart, apart_then, apart_none}
 use Rattle.subscription_laws.proofs.RowCounts.{counts_own}
 use Rattle.subscription_laws.proofs.RowFairness.{fair}
@@ -67,7 +66,7 @@ link_items : (c : Scene) (old : ItemsState) (counts : Counts) →
 unfolding row_done
 link_items c old counts = refl
 
-module _ (made : ℕ) (past : List Fired) (w : World) (old : ItemsState) (n : ℕ) (s : Subscription) (calm : IsCalm (past ++ w.round.rows) w.table old) (own : (session : ℕ) → None ≢ Some session → ListsItsOwn w.table session)
+module _ (made : ℕ) (past : List Fired) (w : Stage) (old : ItemsState) (n : ℕ) (s : Subscription) (calm : IsCalm (past ++ w.round.rows) w.table old) (own : (session : ℕ) → None ≢ Some session → ListsItsOwn w.table session)
     (within : AreLists made w.table) (served : AreApart n old w.items) (found : subscription_at n w.table.subscriptions ≡ Some s) where
   -- the variables before, and the scene in which the row fires
   abbrev before : Vars
@@ -112,11 +111,11 @@ module _ (made : ℕ) (past : List Fired) (w : World) (old : ItemsState) (n : �
         steady (live_fits s.state (Items before) refl steady.live) one;
   }
 
-  served_after : IsKept None made past (world_after n s (fired here) w.table)
+  served_after : IsKept None made past (stage_after n s (fired here) w.table)
   served_after = one_kept None made past w.round.rows w.table old n s (firing here) (fired here) calm own within step (fired_rows here) (inl (fired_stays here refl))
 
   pub served_kept : IsKept None made past (met w n (Items before))
   unfolding met
   served_kept =
-      subst (λ (o : Option Subscription). IsKept None made past (without_closed n (met_found (with_call w.round n (Items before)) w.table.subscriptions w.table.sessions w.items o))) (sym found)
+      subst (λ (o : Option Subscription). IsKept None made past (met_by w n (Items before) o)) (sym found)
       (let k = served_after in record { calm = k.calm; own = k.own; within = k.within })

@@ -32,7 +32,7 @@ use Rattle.ua_subscriptions.specs.Making.{refused_scene, refused_one, with_numbe
 use Rattle.ua_subscriptions.specs.Scenes.{Scene, scene, row_done}
 use Rattle.subscription_laws.specs.Standings.{Counts, standing, standing_in, circumstances, row_counts}
 use Rattle.ua_subscriptions.specs.Subscriptions.{unborn, no_part, is_any, no_vars, vars_of}
-use Rattle.ua_subscriptions.specs.Tables.{TableState, World, with_call, part_at, part_of, subscription_at}
+use Rattle.ua_subscriptions.specs.Tables.{TableState, Stage, with_call, part_at, part_of, subscription_at}
 use Rattle.ua_subscriptions.proofs.Choosing.{either}
 use Rattle.subscription_laws.proofs.Entries.{each_put, some_same, put_here, put_other, rising_put, rising_gone, listed_put, listed_still, listed_before, numbers_rising_put}
 use Rattle.subscription_laws.proofs.Firings.{firing, fired_rows, fired_number, life_told}
@@ -82,14 +82,14 @@ refused_calm rows f t items is law h = record {
   reached = h.reached;
 }
 
-pub refused_items : (session : ℕ) (asked : Settings) (enabled : Bool) (w : World) → (refused_scene session asked enabled w).items ≡ w.items
+pub refused_items : (session : ℕ) (asked : Settings) (enabled : Bool) (w : Stage) → (refused_scene session asked enabled w).items ≡ w.items
 unfolding fired row_done
 refused_items session asked enabled w = refl
 
-abbrev refused_start : ℕ → Settings → Bool → World → Scene
+abbrev refused_start : ℕ → Settings → Bool → Stage → Scene
 refused_start session asked enabled w = scene (with_call w.round 0 (Create true asked enabled)) (unborn session) no_part w.items
 
-pub refused_one_kept : (made : ℕ) (past : List Fired) (session : ℕ) (asked : Settings) (enabled : Bool) (w : World) → IsKept None made past w → IsKept None made past (refused_one session asked enabled w)
+pub refused_one_kept : (made : ℕ) (past : List Fired) (session : ℕ) (asked : Settings) (enabled : Bool) (w : Stage) → IsKept None made past w → IsKept None made past (refused_one session asked enabled w)
 unfolding refused_one
 refused_one_kept made past session asked enabled w k =
     let f = firing (refused_start session asked enabled w) in
@@ -106,7 +106,7 @@ refused_one_kept made past session asked enabled w k =
 
 -- ---- one that is made
 
-abbrev pub added_start : ℕ → ℕ → Settings → Bool → World → Scene
+abbrev pub added_start : ℕ → ℕ → Settings → Bool → Stage → Scene
 added_start session number asked enabled w = scene (with_call w.round number (Create false asked enabled)) (unborn session) (part_at session w.table.sessions) w.items
 
 begins_steady : (c : Scene) (counts : Counts) → IsSteady (standing_in c.round.own (row_done C2 c) (row_counts C2 c counts))
@@ -121,11 +121,11 @@ record IsBegun (rows : List Fired) (c d : Scene) : Type 0 where
   steady : IsSteady (standing_in c.round.own d (counts_at c.round.own (rows ++ firing c ∷ [])))
   lifetime : life_at c.round.own (rows ++ firing c ∷ []) ≡ d.subscription.lifetime_count
 
-pub begun_rest : (session number : ℕ) (asked : Settings) (enabled : Bool) (w : World) → let d = fired (added_start session number asked enabled w) in (d.subscription.session ≡ Some session) × (d.items ≡ w.items)
+pub begun_rest : (session number : ℕ) (asked : Settings) (enabled : Bool) (w : Stage) → let d = fired (added_start session number asked enabled w) in (d.subscription.session ≡ Some session) × (d.items ≡ w.items)
 unfolding fired row_done
 begun_rest session number asked enabled w = (refl, refl)
 
-begun_steady : (rows : List Fired) (session number : ℕ) (asked : Settings) (enabled : Bool) (w : World) → let c = added_start session number asked enabled w in
+begun_steady : (rows : List Fired) (session number : ℕ) (asked : Settings) (enabled : Bool) (w : Stage) → let c = added_start session number asked enabled w in
     IsSteady (standing_in number (fired c) (counts_at number (rows ++ firing c ∷ [])))
 unfolding fired
 begun_steady rows session number asked enabled w =
@@ -133,7 +133,7 @@ begun_steady rows session number asked enabled w =
     let counts = counts_at number rows in
     subst (λ (k : Counts). IsSteady (standing_in number (row_done C2 c) k)) (sym (counts_own number rows (firing c) (fired_number c) ∙ sym (counts_of_row C2 c counts))) (begins_steady c counts)
 
-begun : (rows : List Fired) (session number : ℕ) (asked : Settings) (enabled : Bool) (w : World) → let c = added_start session number asked enabled w in IsBegun rows c (fired c)
+begun : (rows : List Fired) (session number : ℕ) (asked : Settings) (enabled : Bool) (w : Stage) → let c = added_start session number asked enabled w in IsBegun rows c (fired c)
 unfolding fired row_done
 begun rows session number asked enabled w =
     let c = added_start session number asked enabled w in
@@ -232,7 +232,7 @@ module _ (rows : List Fired) (t : TableState) (items : ItemsState) (number sessi
     made_calm : IsCalm (rows ++ f ∷ []) (with_made number session s part t) items
     made_calm = record { listed = made_listed; steady = made_steady; lives = made_lives; lawful = one_more_lawful rows f h.lawful law; reached = h.reached }
 
-pub added_kept : (made : ℕ) (past : List Fired) (session number : ℕ) (asked : Settings) (enabled : Bool) (w : World) → made < number → IsKept None made past w → IsKept None number past (added session number asked enabled w)
+pub added_kept : (made : ℕ) (past : List Fired) (session number : ℕ) (asked : Settings) (enabled : Bool) (w : Stage) → made < number → IsKept None made past w → IsKept None number past (added session number asked enabled w)
 unfolding added
 added_kept made past session number asked enabled w above k =
     let c = added_start session number asked enabled w in

@@ -16,7 +16,7 @@ use Rattle.subscription_laws.specs.Calm.{AreAbove, AreRising, is_listed, ListsIt
 use Rattle.ua_subscriptions.specs.Ending.{came_by_other, part_without_conn, entry_without_conn}
 use Rattle.subscription_laws.specs.Histories.{counts_at, life_at}
 use Rattle.ua_subscriptions.specs.Subscriptions.{no_part, is_any}
-use Rattle.ua_subscriptions.specs.Tables.{TableState, World, subscription_at, part_at, part_of}
+use Rattle.ua_subscriptions.specs.Tables.{TableState, Stage, subscription_at, part_at, part_of}
 use Rattle.subscription_laws.proofs.Entries.{each_set, gone_here, gone_other, put_here, put_other, some_same, same_or_not, set_here, set_other, rising_set}
 use Rattle.ua_subscriptions.proofs.Meetings.{set_absent}
 use Rattle.subscription_laws.proofs.Keeping.{IsKept}
@@ -64,7 +64,7 @@ module _ (rows : List Fired) (t : TableState) (items : ItemsState) (sessions : L
     rising = λ k. subst AreNumbersRising (sym (f.numbers k)) (lists.rising k);
   }
 
-pub parts_kept : (except : Option ℕ) (made : ℕ) (past : List Fired) (w : World) (sessions : List (ℕ × SessionSubscriptions)) → AreFewer w.table.sessions sessions → IsKept except made past w →
+pub parts_kept : (except : Option ℕ) (made : ℕ) (past : List Fired) (w : Stage) (sessions : List (ℕ × SessionSubscriptions)) → AreFewer w.table.sessions sessions → IsKept except made past w →
     IsKept except made past (record { round = w.round; table = with_sessions w.table sessions; items = w.items })
 parts_kept except made past w sessions f k =
     let rows = past ++ w.round.rows in

@@ -27,24 +27,24 @@ use Rattle.ua_state_table.specs.Steady.{waits_in}
 use Rattle.ua_subscriptions.specs.Ranks.{number_of, is_waiting, waiting_of}
 use Rattle.ua_subscriptions.specs.Scenes.{Scene, row_done}
 use Rattle.subscription_laws.specs.Standings.{IsAsked}
-use Rattle.subscription_laws.specs.Encounters.{scene_at, is_meant, met_if}
+use Rattle.subscription_laws.specs.Encounters.{is_meant, met_if}
 use Rattle.ua_subscriptions.specs.Subscriptions.{is_any}
-use Rattle.ua_subscriptions.specs.Tables.{TableState, World, with_call, without_closed, met_found, met, part_at, part_of, set_part, subscription_at}
+use Rattle.ua_subscriptions.specs.Tables.{TableState, Stage, met, part_at, part_of, set_part, subscription_at, stage_after, scene_at, met_by}
 use Rattle.subscription_laws.proofs.Acknowledgements.{all_acknowledged}
 use Rattle.subscription_laws.proofs.AskedNumbers.{no_waiting_passed_over, first_is}
 use Rattle.subscription_laws.proofs.ChosenRows.{publish_stays, waiting_none, live_fits}
 use Rattle.subscription_laws.proofs.Entries.{listed_first, among, some_same}
-use Rattle.subscription_laws.proofs.Keeping.{IsKept, its_own, world_after, live_kept, unasked, is_live, fired_stays}
+use Rattle.subscription_laws.proofs.Keeping.{IsKept, its_own, live_kept, unasked, is_live, fired_stays}
 use Rattle.subscription_laws.proofs.KeepingParts.{parts_kept, set_fewer, kept_calm, kept_own}
 use Rattle.subscription_laws.proofs.RowLinks.{enqueued_any}
 use Rattle.subscription_laws.proofs.Settling.{NoneWaits, IsPutBack, back_is, part_own}
 
 -- ---- acknowledgements
 
-abbrev with_subscriptions : World → List (ℕ × Subscription) → World
+abbrev with_subscriptions : Stage → List (ℕ × Subscription) → Stage
 with_subscriptions w subscriptions = record { round = w.round; table = record { subscriptions = subscriptions; sessions = w.table.sessions }; items = w.items }
 
-message_forgotten : (made : ℕ) (past : List Fired) (w : World) (subscriptions : List (ℕ × Subscription)) (n number : ℕ) (s : Subscription) → subscription_at n subscriptions ≡ Some s →
+message_forgotten : (made : ℕ) (past : List Fired) (w : Stage) (subscriptions : List (ℕ × Subscription)) (n number : ℕ) (s : Subscription) → subscription_at n subscriptions ≡ Some s →
     IsKept None made past (with_subscriptions w subscriptions) → IsKept None made past (with_subscriptions w (set_value (is_at (nat_cmp n)) subscriptions (without_kept number s)))
 message_forgotten made past w subscriptions n number s found k =
     let t : TableState = record { subscriptions = subscriptions; sessions = w.table.sessions } in
@@ -54,7 +54,7 @@ message_forgotten made past w subscriptions n number s found k =
       within = record { within = k.within.within; rising = k.within.rising };
     }
 
-pub ready_kept : (session made : ℕ) (past : List Fired) (acks : List SubscriptionAcknowledgement) (w : World) → IsKept None made past w → IsKept None made past (ready session acks w)
+pub ready_kept : (session made : ℕ) (past : List Fired) (acks : List SubscriptionAcknowledgement) (w : Stage) → IsKept None made past w → IsKept None made past (ready session acks w)
 ready_kept session made past acks w k =
     let all = acknowledged_all session w.table.subscriptions acks in
     parts_kept None made past (with_subscriptions w all.subscriptions) _ (set_fewer session (part_without_note (part_at session w.table.sessions)) w.table.sessions refl (λ e. e))
@@ -77,7 +77,7 @@ none_wait subscriptions ns none m s listed found = false_from_ne_true (is_waitin
     by [] none listed = false≢true listed
     by (r ∷ rs) none listed = absurd (cc)
 
-publish_session : (w : World) (n : ℕ) (s : Subscription) → (fired (scene_at w n Publish s)).subscription.session ≡ s.session
+publish_session : (w : Stage) (n : ℕ) (s : Subscription) → (fired (scene_at w n Publish s)).subscription.session ≡ s.session
 publish_session w n s = fired_stays (scene_at w n Publish s) (publish_stays s.state (answers (vars_in (scene_at w n Publish s))))
 
 -- ---- all of a session, of which none waits, are asked
@@ -110,19 +110,19 @@ unfolding fired
 fired_queues c q = record { calm = q.calm; any = q.any }
 
 -- the session is asked, and none of its subscriptions waits
-pub record IsAsking (session made : ℕ) (past : List Fired) (w : World) : Type 0 where
+pub record IsAsking (session made : ℕ) (past : List Fired) (w : Stage) : Type 0 where
   pub kept : IsKept None made past w
   pub none : NoneWaits w.table (Some session)
   pub asked : (is_some w.round.asked || is_any (part_at session w.table.sessions).requests) ≡ true
 
-abbrev pub AreOf : ℕ → List ℕ → World → Type 0
+abbrev pub AreOf : ℕ → List ℕ → Stage → Type 0
 AreOf session ns w = (m : ℕ) (s : Subscription) → is_listed m ns ≡ true → subscription_at m w.table.subscriptions ≡ Some s → s.session ≡ Some session
 
-pub record Asked (session made : ℕ) (past : List Fired) (ns : List ℕ) (v : World) : Type 0 where
+pub record Asked (session made : ℕ) (past : List Fired) (ns : List ℕ) (v : Stage) : Type 0 where
   pub asking : IsAsking session made past v
   pub of : AreOf session ns v
 
-module _ (session made : ℕ) (past : List Fired) (w : World) (n : ℕ) (ns : List ℕ) (h : IsAsking session made past w) (of : AreOf session (n ∷ ns) w) where
+module _ (session made : ℕ) (past : List Fired) (w : Stage) (n : ℕ) (ns : List ℕ) (h : IsAsking session made past w) (of : AreOf session (n ∷ ns) w) where
   asks_for_all : (s : Subscription) → subscription_at n w.table.subscriptions ≡ Some s → IsAsked (scene_at w n Publish s) × NoneWaits w.table s.session
   asks_for_all s found =
       let own : s.session ≡ Some session = of n s (listed_first n ns) found in (
@@ -130,7 +130,7 @@ module _ (session made : ℕ) (past : List Fired) (w : World) (n : ℕ) (ns : Li
         λ m u there same. h.none m u there (same ∙ own),
       )
 
-  one_asked : (s : Subscription) → subscription_at n w.table.subscriptions ≡ Some s → Asked session made past ns (world_after n s (fired (scene_at w n Publish s)) w.table)
+  one_asked : (s : Subscription) → subscription_at n w.table.subscriptions ≡ Some s → Asked session made past ns (stage_after n s (fired (scene_at w n Publish s)) w.table)
   one_asked s found =
       let own : s.session ≡ Some session = of n s (listed_first n ns) found in
       let live = is_live None made past w n s found h.kept in
@@ -165,7 +165,7 @@ module _ (session made : ℕ) (past : List Fired) (w : World) (n : ℕ) (ns : Li
   unfolding met
   met_asked = by (subscription_at n w.table.subscriptions) refl
     where
-      by : (o : Option Subscription) → subscription_at n w.table.subscriptions ≡ o → Asked session made past ns (without_closed n (met_found (with_call w.round n Publish) w.table.subscriptions w.table.sessions w.items o))
+      by : (o : Option Subscription) → subscription_at n w.table.subscriptions ≡ o → Asked session made past ns (met_by w n Publish o)
       by None found = record {
         asking = record { kept = record { calm = h.kept.calm; own = h.kept.own; within = h.kept.within }; none = h.none; asked = h.asked };
         of = λ m u listed there. of m u (among m n ns listed) there;
@@ -180,7 +180,7 @@ module _ (session made : ℕ) (past : List Fired) (w : World) (n : ℕ) (ns : Li
 -- ---- those that meet a Publish request
 
 -- where none waits, all are asked
-none_asked : (session made : ℕ) (past : List Fired) (w : World) (ns : List ℕ) (call : PublishCall) → (part_at session w.table.sessions).numbers ≡ ns → IsKept None made past w →
+none_asked : (session made : ℕ) (past : List Fired) (w : Stage) (ns : List ℕ) (call : PublishCall) → (part_at session w.table.sessions).numbers ≡ ns → IsKept None made past w →
     first_of (waiting_of w.table.subscriptions ns) ≡ None → Asked session made past ns (asked_by w call)
 none_asked session made past w ns call are k is = record {
   asking = record {
@@ -193,39 +193,39 @@ none_asked session made past w ns call are k is = record {
 }
 
 -- one that waits meets a request alone; or those of a session do, of which none waits
-abbrev pub Answerable : World → List ℕ → Type 0
+abbrev pub Answerable : Stage → List ℕ → Type 0
 Answerable w [] = Unit {0}
 Answerable w (n ∷ ns) =
     ((ns ≡ []) × Waits w.table.subscriptions n × ((call : PublishCall) × (w.round.asked ≡ Some call))) ⊎ ((session : ℕ) × (made : ℕ) × (past : List Fired) × Asked session made past (n ∷ ns) w)
 
-abbrev pub CanAnswer : Option ℕ → Call → World → List ℕ → Type 0
+abbrev pub CanAnswer : Option ℕ → Call → Stage → List ℕ → Type 0
 CanAnswer whose asked w ns = asked ≡ Publish → (whose ≡ None) × Answerable w ns
 
-rest_answerable : (w : World) (n : ℕ) (ns : List ℕ) → Answerable w (n ∷ ns) → Answerable (met w n Publish) ns
+rest_answerable : (w : Stage) (n : ℕ) (ns : List ℕ) → Answerable w (n ∷ ns) → Answerable (met w n Publish) ns
 rest_answerable w n [] h = tt
 rest_answerable w n (m ∷ ns) (inl (alone, waits, x)) = absurd (cc)
 rest_answerable w n (m ∷ ns) (inr (session, made, past, a)) = inr (session, made, past, met_asked session made past w n (m ∷ ns) a.asking a.of)
 
-pub rest_can : (whose : Option ℕ) (asked : Call) (w : World) (n : ℕ) (ns : List ℕ) → CanAnswer whose asked w (n ∷ ns) → CanAnswer whose asked (met_if (is_meant whose w n) w n asked) ns
+pub rest_can : (whose : Option ℕ) (asked : Call) (w : Stage) (n : ℕ) (ns : List ℕ) → CanAnswer whose asked w (n ∷ ns) → CanAnswer whose asked (met_if (is_meant whose w n) w n asked) ns
 rest_can None asked w n ns h = λ is. (refl, subst (λ (c : Call). Answerable (met w n c) ns) (sym is) (rest_answerable w n ns (h is).1))
 rest_can (Some session) asked w n ns h = λ is. let clash : Some session ≡ None = (h is).0 in absurd (cc)
 
-best_answerable : (session made : ℕ) (past : List Fired) (w : World) (asked : PublishCall) (ns : List ℕ) → (part_at session w.table.sessions).numbers ≡ ns → IsKept None made past w →
+best_answerable : (session made : ℕ) (past : List Fired) (w : Stage) (asked : PublishCall) (ns : List ℕ) → (part_at session w.table.sessions).numbers ≡ ns → IsKept None made past w →
     (o : Option Rank) → first_of (waiting_of w.table.subscriptions ns) ≡ o → Answerable (asked_by w asked) (best_or_all o ns)
 best_answerable session made past w asked ns are k (Some rank) is = inl (refl, best_waits w.table.subscriptions ns rank is, (asked, refl))
 best_answerable session made past w asked [] are k None is = tt
 best_answerable session made past w asked (n ∷ ns) are k None is = inr (session, made, past, none_asked session made past w (n ∷ ns) asked are k is)
 
 -- where a Publish request is there
-pub publish_begins : (session made : ℕ) (past : List Fired) (asked : PublishCall) (acks : List SubscriptionAcknowledgement) (w : World) → IsKept None made past w →
+pub publish_begins : (session made : ℕ) (past : List Fired) (asked : PublishCall) (acks : List SubscriptionAcknowledgement) (w : Stage) → IsKept None made past w →
     let v = ready session acks w in Answerable (asked_by v asked) (asked_numbers v (part_at session v.table.sessions).numbers)
 publish_begins session made past asked acks w k =
     let v = ready session acks w in
     let ns = (part_at session v.table.sessions).numbers in
     best_answerable session made past v asked ns refl (ready_kept session made past acks w k) (first_of (waiting_of v.table.subscriptions ns)) refl
 
-pub live_publish : (made : ℕ) (past : List Fired) (w : World) (n : ℕ) (ns : List ℕ) (s : Subscription) → Answerable w (n ∷ ns) → subscription_at n w.table.subscriptions ≡ Some s → IsKept None made past w →
-    IsKept None made past (world_after n s (fired (scene_at w n Publish s)) w.table)
+pub live_publish : (made : ℕ) (past : List Fired) (w : Stage) (n : ℕ) (ns : List ℕ) (s : Subscription) → Answerable w (n ∷ ns) → subscription_at n w.table.subscriptions ≡ Some s → IsKept None made past w →
+    IsKept None made past (stage_after n s (fired (scene_at w n Publish s)) w.table)
 live_publish made past w n ns s given found k =
     live_kept None made past w n Publish s found k refl (live_fits s.state Publish refl (is_live None made past w n s found k)) (asks given) (inl (publish_session w n s))
   where

@@ -33,10 +33,10 @@ use Rattle.ua_subscriptions.specs.Making.{refused_one, added}
 use Rattle.ua_subscriptions.specs.Named.{all_refused}
 use Rattle.ua_subscriptions.specs.Publishing.{without_kept}
 use Rattle.ua_subscriptions.specs.Scenes.{Scene, row_done}
-use Rattle.ua_subscriptions.specs.Tables.{TableState, World, subscription_at}
-use Rattle.ua_subscriptions.specs.SubscriptionCalls.{world_of}
+use Rattle.ua_subscriptions.specs.Tables.{TableState, Stage, subscription_at, put_back, scene_at}
+use Rattle.ua_subscriptions.specs.SubscriptionCalls.{stage_of}
 use Rattle.subscription_laws.specs.Calm.{AreRising, AreReached}
-use Rattle.subscription_laws.specs.Encounters.{Beside, CallsItems, ShowsItems, Acknowledges, beside, Encounter, Meets, scene_at, made_scene}
+use Rattle.subscription_laws.specs.Encounters.{Beside, CallsItems, ShowsItems, Acknowledges, beside, Encounter, Meets, made_scene}
 use Rattle.subscription_laws.specs.LiveItems.{AreOfLive}
 use Rattle.subscription_laws.specs.Runs.{ItemsCall, Move, Ran, start, moved, run, items_asked}
 use Rattle.ua_subscriptions.proofs.Choosing.{either}
@@ -48,7 +48,7 @@ use Rattle.subscription_laws.proofs.Firings.{fired_items}
 use Rattle.subscription_laws.proofs.Folds.{fold_keeps}
 use Rattle.subscription_laws.proofs.KeepingItems.{served_apart}
 use Rattle.subscription_laws.proofs.RunsKept.{run_kept}
-use Rattle.subscription_laws.proofs.Settling.{put_back, back_other, IsPutBack, back_is, back_rises}
+use Rattle.subscription_laws.proofs.Settling.{back_other, IsPutBack, back_is, back_rises}
 use Rattle.subscription_laws.proofs.ShutdownLemmas.{none_is_left}
 use Rattle.subscription_laws.proofs.Walks.{left, left_is, Fits, Follows, FollowsMaking, Any, any_begins, walked}
 
@@ -123,7 +123,7 @@ fired_closes : (c : Scene) → is_closed c.subscription ≡ false → is_create 
 unfolding fired
 fired_closes c live plain closed = closing (row_of c) c live (live_row c.round.call c live plain) closed
 
--- ---- what holds of the subscriptions and the items of a world
+-- ---- what holds of the subscriptions and the items of a stage
 
 pub record IsLively (subscriptions : List (ℕ × Subscription)) (items : ItemsState) : Type 0 where
   pub live : (n : ℕ) (s : Subscription) → subscription_at n subscriptions ≡ Some s → is_closed s ≡ false
@@ -147,7 +147,7 @@ set_lively k s u subscriptions items found alive h = record {
 
 -- ---- one encounter
 
-module _ (w : World) (n : ℕ) (asked : Call) (s : Subscription) (plain : is_create asked ≡ false) (found : subscription_at n w.table.subscriptions ≡ Some s) (h : IsLively w.table.subscriptions w.items) where
+module _ (w : Stage) (n : ℕ) (asked : Call) (s : Subscription) (plain : is_create asked ≡ false) (found : subscription_at n w.table.subscriptions ≡ Some s) (h : IsLively w.table.subscriptions w.items) where
   abbrev d : Scene
   d = fired (scene_at w n asked s)
 
@@ -178,14 +178,14 @@ module _ (w : World) (n : ℕ) (asked : Call) (s : Subscription) (plain : is_cre
 
 -- ---- any call
 
-abbrev Lively : World → Type 0
+abbrev Lively : Stage → Type 0
 Lively w = IsLively w.table.subscriptions w.items
 
-abbrev StaysLively : World → List Encounter → World → Type 0
+abbrev StaysLively : Stage → List Encounter → Stage → Type 0
 StaysLively w es v = Lively w → Lively v
 
 -- the items of a live subscription were called
-served_lively : (w : World) (number : ℕ) (asked : Option ItemsCall) → is_some (subscription_at number w.table.subscriptions) ≡ true → Lively w → Lively (beside w (CallsItems number asked))
+served_lively : (w : Stage) (number : ℕ) (asked : Option ItemsCall) → is_some (subscription_at number w.table.subscriptions) ≡ true → Lively w → Lively (beside w (CallsItems number asked))
 served_lively w number asked lives h = record {
   live = h.live;
   rising = h.rising;
@@ -197,7 +197,7 @@ served_lively w number asked lives h = record {
     there m item at_m (inl own) = ap (λ (k : ℕ). is_some (subscription_at k w.table.subscriptions)) own ∙ lives
     there m item at_m (inr other) = h.owned m item (((served_apart number asked w.items).stay h.reached).1 m item at_m (ne_eqb item.subscription number other))
 
-lively_beside : (w : World) (b : Beside) → Fits w b → Lively w → Lively (beside w b)
+lively_beside : (w : Stage) (b : Beside) → Fits w b → Lively w → Lively (beside w b)
 unfolding all_refused
 lively_beside w (CallsItems number asked) fits h = served_lively w number asked fits h
 lively_beside w (ShowsItems changed) fits h = record {
@@ -211,7 +211,7 @@ lively_beside w (Acknowledges session acks) fits h =
     (λ subscriptions n number s found its k. set_lively n s (without_kept number s) subscriptions w.items found (k.live n s found) k) acks w.table.subscriptions h
 lively_beside w b fits h = h
 
-refused_lively : (session number : ℕ) (settings : Settings) (enabled : Bool) (w : World) → StaysLively w (Meets (made_scene true number session settings enabled w) ∷ []) (refused_one session settings enabled w)
+refused_lively : (session number : ℕ) (settings : Settings) (enabled : Bool) (w : Stage) → StaysLively w (Meets (made_scene true number session settings enabled w) ∷ []) (refused_one session settings enabled w)
 unfolding refused_one fired row_done
 refused_lively session number settings enabled w h = record { live = h.live; rising = h.rising; reached = h.reached; owned = h.owned }
 
@@ -227,7 +227,7 @@ put_lively n s subscriptions items alive h = record {
     there m (inl is) was = ap (λ (j : ℕ). is_some (subscription_at j (insert_entry nat_cmp subscriptions n s))) is ∙ ap is_some (put_here n s subscriptions)
     there m (inr other) was = ap is_some (put_other n m s other subscriptions) ∙ was
 
-added_lively : (session number : ℕ) (settings : Settings) (enabled : Bool) (w : World) → StaysLively w (Meets (made_scene false number session settings enabled w) ∷ []) (added session number settings enabled w)
+added_lively : (session number : ℕ) (settings : Settings) (enabled : Bool) (w : Stage) → StaysLively w (Meets (made_scene false number session settings enabled w) ∷ []) (added session number settings enabled w)
 unfolding added fired row_done
 added_lively session number settings enabled w h = put_lively number _ w.table.subscriptions w.items refl h
 
@@ -242,7 +242,7 @@ follows_lively = record {
 }
 
 lively_making : FollowsMaking StaysLively
-lively_making = record { refuses = refused_lively; adds = λ r clock session settings enabled room. added_lively session (r.subs.made + 1) settings enabled (world_of r.subs r.items clock) }
+lively_making = record { refuses = refused_lively; adds = λ r clock session settings enabled room. added_lively session (r.subs.made + 1) settings enabled (stage_of r.subs r.items clock) }
 
 one_call : (r : Ran) (m : Move) → IsLively r.subs.table.subscriptions r.items → IsLively (moved r m).subs.table.subscriptions (moved r m).items
 one_call r m h =

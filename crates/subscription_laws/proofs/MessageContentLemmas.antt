@@ -18,11 +18,11 @@ use Rattle.ua_subscriptions.specs.declared.publish_call.PublishCall.{PublishCall
 use Rattle.ua_subscriptions.specs.Firing.{row_of}
 use Rattle.ua_subscriptions.specs.Messages.{number_after}
 use Rattle.ua_subscriptions.specs.Scenes.{Scene, Noting, noting, note_sent, with_asked, dequeued, started, life_reset}
-use Rattle.ua_subscriptions.specs.Tables.{World}
+use Rattle.ua_subscriptions.specs.Tables.{Stage, scene_at}
 use Rattle.subscription_laws.specs.Fates.{account_at}
 use Rattle.std.specs.List.{flat_map}
 use Rattle.std.proofs.lemmas.List.Concat.{flat_map-append}
-use Rattle.subscription_laws.specs.Encounters.{Beside, CallsItems, Encounter, Meets, Does, scene_at}
+use Rattle.subscription_laws.specs.Encounters.{Beside, CallsItems, Encounter, Meets, Does}
 use Rattle.subscription_laws.specs.Actions.{rest_notings, notings}
 use Rattle.subscription_laws.specs.ItemCalls.{note_call, row_calls, calls_at, calls_of, item_calls}
 use Rattle.subscription_laws.specs.Messaging.{Made, made_of, made_at, moved_made, run_made}
@@ -98,7 +98,7 @@ row_told r c = tt
 -- ---- any call
 
 -- the items come by their calls, and the messages are made of what those take
-abbrev Tell : World → List Encounter → World → Type 0
+abbrev Tell : Stage → List Encounter → Stage → Type 0
 Tell w es v = ItemsCome w es v × AreMadeOf (flat_map made_at es) (taken_from w.items (flat_map calls_at es))
 
 -- of a row alone, with nothing behind it
@@ -107,7 +107,7 @@ one_tells c =
     subst (λ (ms : List Made). AreMadeOf ms (taken_from c.items (calls_at (Meets c) ++ []))) (sym (append-nil (made_at (Meets c))))
     (subst (λ (xs : List item_moves.Move). AreMadeOf (made_at (Meets c)) (taken_from c.items xs)) (sym (append-nil (calls_at (Meets c)))) (row_told (row_of c) c))
 
-next_tells : (w v u : World) (es fs : List Encounter) → Tell w es v → Tell v fs u → Tell w (es ++ fs) u
+next_tells : (w v u : Stage) (es fs : List Encounter) → Tell w es v → Tell v fs u → Tell w (es ++ fs) u
 next_tells w v u es fs h k = (
   follows_items.next w v u es fs h.0 k.0,
   subst (λ (xs : List item_moves.Move). AreMadeOf (flat_map made_at (es ++ fs)) (taken_from w.items xs)) (sym (flat_map-append calls_at es fs))
@@ -116,7 +116,7 @@ next_tells w v u es fs h k = (
 )
 
 -- what is asked of the items beside the rows takes no values
-beside_takes : (w : World) (b : Beside) → AreMadeOf [] (taken_from w.items (flat_map calls_at (Does w b ∷ [])))
+beside_takes : (w : Stage) (b : Beside) → AreMadeOf [] (taken_from w.items (flat_map calls_at (Does w b ∷ [])))
 beside_takes w (CallsItems number (Some (ItemsCall.Create nodes clock timestamps requests))) = tt
 beside_takes w (CallsItems number (Some (ItemsCall.Modify timestamps requests))) = tt
 beside_takes w (CallsItems number (Some (ItemsCall.SetMode nodes clock mode numbers))) = tt

@@ -19,21 +19,20 @@ use Rattle.subscription_laws.specs.Calm.{AreRising}
 use Rattle.ua_subscriptions.specs.Firing.{is_closed, row_of, fired}
 use Rattle.ua_subscriptions.specs.Messages.{number_after}
 use Rattle.subscription_laws.specs.Messaging.{Made, made_of, made_at, messages_for, AreNotes}
-use Rattle.subscription_laws.specs.Encounters.{Meets, scene_at}
+use Rattle.subscription_laws.specs.Encounters.{Meets}
 use Rattle.subscription_laws.specs.Numbering.{last_number, messages_of}
 use Rattle.ua_subscriptions.specs.Scenes.{Scene, done, row_done}
-use Rattle.ua_subscriptions.specs.Tables.{TableState, World, part_at, part_of, set_part, subscription_at}
+use Rattle.ua_subscriptions.specs.Tables.{TableState, Stage, part_at, part_of, set_part, subscription_at, put_back, stage_after, scene_at}
 use Rattle.ua_subscriptions.proofs.OwingRows.{all_append}
 use Rattle.subscription_laws.proofs.ChosenRows.{is_create}
 use Rattle.subscription_laws.proofs.Entries.{gone_here, rising_set}
 use Rattle.subscription_laws.proofs.Folds.{all_so}
-use Rattle.subscription_laws.proofs.Keeping.{world_after}
 use Rattle.subscription_laws.proofs.KeepingParts.{of_set}
 use Rattle.subscription_laws.proofs.MessageLists.{more_own, more_other}
 use Rattle.subscription_laws.proofs.MessagesKept.{IsNumbered, live_numbered}
 use Rattle.subscription_laws.proofs.Owners.{actions_keep}
 use Rattle.subscription_laws.proofs.Remains.{enqueued_without}
-use Rattle.subscription_laws.proofs.Settling.{put_back, back_other, part_rises}
+use Rattle.subscription_laws.proofs.Settling.{back_other, part_rises}
 
 -- ---- notes of subscriptions that are over
 
@@ -123,7 +122,7 @@ fired_notes c = by (list_any is_noting (actions_of (row_of c))) refl
 back_gone : (n : ℕ) (d : Subscription) (subscriptions : List (ℕ × Subscription)) → AreRising subscriptions → is_closed d ≡ true → subscription_at n (put_back n d subscriptions) ≡ None
 back_gone n d subscriptions rising closed = ap (subscription_at n) (cond-true (is_closed d) _ _ closed) ∙ gone_here n (set_value (is_at (nat_cmp n)) subscriptions d) (rising_set n d subscriptions rising)
 
-module _ (made : ℕ) (ms : List Made) (w : World) (n : ℕ) (call : Call) (s : Subscription) (h : IsMessaged made ms w.table) (found : subscription_at n w.table.subscriptions ≡ Some s) where
+module _ (made : ℕ) (ms : List Made) (w : Stage) (n : ℕ) (call : Call) (s : Subscription) (h : IsMessaged made ms w.table) (found : subscription_at n w.table.subscriptions ≡ Some s) where
   abbrev here : Scene
   here = scene_at w n call s
 
@@ -164,8 +163,8 @@ module _ (made : ℕ) (ms : List Made) (w : World) (n : ℕ) (call : Call) (s : 
   notes_after None k = notes_before k
   notes_after (Some j) k = of_set j (fired here).part w.table.sessions (λ (i : ℕ) (p : SessionSubscriptions). AllNotes made after left p.notes) own_notes notes_before k
 
-pub one_messaged : (made : ℕ) (ms : List Made) (w : World) (n : ℕ) (call : Call) (s : Subscription) → is_create call ≡ false → subscription_at n w.table.subscriptions ≡ Some s → IsMessaged made ms w.table →
-    IsMessaged made (ms ++ made_at (Meets (scene_at w n call s))) (world_after n s (fired (scene_at w n call s)) w.table).table
+pub one_messaged : (made : ℕ) (ms : List Made) (w : Stage) (n : ℕ) (call : Call) (s : Subscription) → is_create call ≡ false → subscription_at n w.table.subscriptions ≡ Some s → IsMessaged made ms w.table →
+    IsMessaged made (ms ++ made_at (Meets (scene_at w n call s))) (stage_after n s (fired (scene_at w n call s)) w.table).table
 one_messaged made ms w n call s begins found h = record {
   rising = part_rises s.session (fired (scene_at w n call s)).part w.table.sessions h.rising;
   numbered = live_numbered made ms w n call s h.numbered found begins;

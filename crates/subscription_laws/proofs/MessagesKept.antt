@@ -14,15 +14,14 @@ use Rattle.subscription_laws.specs.Calm.{AreRising}
 use Rattle.ua_subscriptions.specs.Firing.{is_closed, before_of, row_of, fired}
 use Rattle.subscription_laws.specs.Messaging.{Made, made_of, messages_for, AreAmong, AreItsMessages}
 use Rattle.subscription_laws.specs.Numbering.{AreNumbered, last_number, IsMade, messages_of, begins_or_ends}
-use Rattle.subscription_laws.specs.Encounters.{scene_at}
 use Rattle.ua_subscriptions.specs.Scenes.{Scene, row_done}
-use Rattle.ua_subscriptions.specs.Tables.{World, subscription_at}
+use Rattle.ua_subscriptions.specs.Tables.{Stage, subscription_at, put_back, scene_at}
 use Rattle.subscription_laws.proofs.ChosenRows.{publish_is_none, is_create, timer_is_none}
 use Rattle.subscription_laws.proofs.Entries.{same_or_not}
 use Rattle.subscription_laws.proofs.Firings.{fired_subscription}
 use Rattle.subscription_laws.proofs.MadeMessages.{row_makes}
 use Rattle.subscription_laws.proofs.MessageLists.{numbered_on, last_on, more_own, more_other, more_kept}
-use Rattle.subscription_laws.proofs.Settling.{put_back, IsPutBack, back_is, back_rises}
+use Rattle.subscription_laws.proofs.Settling.{IsPutBack, back_is, back_rises}
 
 -- messages of subscriptions whose numbers were given
 pub record IsNumbered (made : ℕ) (ms : List Made) (subscriptions : List (ℕ × Subscription)) : Type 0 where
@@ -104,7 +103,7 @@ module _ (made : ℕ) (ms : List Made) (subscriptions : List (ℕ × Subscriptio
 
 -- ---- what a live subscription meets
 
-module _ (made : ℕ) (ms : List Made) (w : World) (n : ℕ) (call : Call) (s : Subscription) (h : IsNumbered made ms w.table.subscriptions) (found : subscription_at n w.table.subscriptions ≡ Some s) (begins : is_create call ≡ false) where
+module _ (made : ℕ) (ms : List Made) (w : Stage) (n : ℕ) (call : Call) (s : Subscription) (h : IsNumbered made ms w.table.subscriptions) (found : subscription_at n w.table.subscriptions ≡ Some s) (begins : is_create call ≡ false) where
   row_numbered : (b : Bool) → begins_or_ends (row_of (scene_at w n call s)) ≡ b → AreNumbered s.number (messages_of (row_of (scene_at w n call s)) (scene_at w n call s))
   row_numbered false e = (row_makes (row_of (scene_at w n call s)) (scene_at w n call s) e).numbered
   row_numbered true e =

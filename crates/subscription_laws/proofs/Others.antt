@@ -22,17 +22,16 @@ use Rattle.ua_subscriptions.specs.Making.{refused_one, with_number, added}
 use Rattle.ua_subscriptions.specs.Named.{is_own_in, is_own, without_requests, all_refused}
 use Rattle.ua_subscriptions.specs.Publishing.{without_kept, part_without_note, without_note, ready, asked_numbers}
 use Rattle.subscription_laws.specs.Runs.{Move, Ran, ran_by, moved, run}
-use Rattle.subscription_laws.specs.Encounters.{Beside, CallsItems, ShowsItems, Acknowledges, Refuses, Leaves, LeavesAll, Loses, beside, Encounter, scene_at, is_meant, met_if}
-use Rattle.ua_subscriptions.specs.SubscriptionCalls.{world_of, is_full, refused, created_one, created}
+use Rattle.subscription_laws.specs.Encounters.{Beside, CallsItems, ShowsItems, Acknowledges, Refuses, Leaves, LeavesAll, Loses, beside, Encounter, is_meant, met_if}
+use Rattle.ua_subscriptions.specs.SubscriptionCalls.{stage_of, is_full, refused, created_one, created}
 use Rattle.ua_subscriptions.specs.Scenes.{Scene}
 use Rattle.ua_subscriptions.specs.Subscriptions.{no_part, is_of as is_of_session}
-use Rattle.ua_subscriptions.specs.Tables.{TableState, World, part_at, set_part, subscription_at}
+use Rattle.ua_subscriptions.specs.Tables.{TableState, Stage, part_at, set_part, subscription_at, put_back, stage_after, scene_at}
 use Rattle.ua_subscriptions.proofs.Choosing.{either}
 use Rattle.subscription_laws.proofs.Acknowledgements.{of_is, all_acknowledged}
 use Rattle.subscription_laws.proofs.AskedNumbers.{asked_are, listed_are}
 use Rattle.subscription_laws.proofs.Entries.{each_put, same_or_not, set_here, set_other, put_other, gone_other, rising_set}
 use Rattle.subscription_laws.proofs.Firings.{fired_items, fired_session}
-use Rattle.subscription_laws.proofs.Keeping.{world_after}
 use Rattle.subscription_laws.proofs.KeepingItems.{served_apart}
 use Rattle.subscription_laws.proofs.KeepingMade.{refused_items, added_start, begun_rest}
 use Rattle.subscription_laws.proofs.Remains.{AreApart}
@@ -40,7 +39,7 @@ use Rattle.subscription_laws.proofs.RunMessages.{run_numbered}
 use Rattle.subscription_laws.proofs.RunsKept.{IsRunKept, run_kept}
 use Rattle.subscription_laws.proofs.KeepingParts.{of_put, set_fewer}
 use Rattle.subscription_laws.proofs.Walks.{all_split, clock_of, makes, left, left_is, Follows, Begins, walked_on, DoneBy, OnBeside, each_done}
-use Rattle.subscription_laws.proofs.Settling.{put_back, IsPutBack, back_other, back_is, back_rises}
+use Rattle.subscription_laws.proofs.Settling.{IsPutBack, back_other, back_is, back_rises}
 
 -- ---- whose a subscription is
 
@@ -77,7 +76,7 @@ module _ (session : ℕ) (t : TableState) (items : ItemsState) where
     none_comes : (m : ℕ) (item : Item) → item_at m after.items ≡ Some item → is_own t session item.subscription ≡ false → item_at m items.items ≡ Some item
     reached : AreReached after
 
-  record IsApart (w : World) : Type 0 where
+  record IsApart (w : Stage) : Type 0 where
     parts : (k : ℕ) → k ≢ session → part_at k w.table.sessions ≡ part_at k t.sessions
     subscriptions : SubscriptionsApart w.table.subscriptions
     monitored : ItemsApart w.items
@@ -103,7 +102,7 @@ module _ (session : ℕ) (t : TableState) (items : ItemsState) where
       by true e = e
       by false e = own_found session (subscription_at n t.subscriptions) s (sym (h.others n e) ∙ found) mine
 
-  own_now : (w : World) (n : ℕ) → IsApart w → is_own w.table session n ≡ true → is_own t session n ≡ true
+  own_now : (w : Stage) (n : ℕ) → IsApart w → is_own w.table session n ≡ true → is_own t session n ≡ true
   own_now w n h is = by (subscription_at n w.table.subscriptions) refl is
     where
       by : (o : Option Subscription) → subscription_at n w.table.subscriptions ≡ o → is_own_in session o ≡ true → is_own t session n ≡ true
@@ -127,7 +126,7 @@ module _ (session : ℕ) (t : TableState) (items : ItemsState) where
     reached = a.reached h.reached;
   }
 
-  live_apart : (w : World) (n : ℕ) (asked : Call) (s : Subscription) → is_own t session n ≡ true → subscription_at n w.table.subscriptions ≡ Some s → IsApart w → IsApart (world_after n s (fired (scene_at w n asked s)) w.table)
+  live_apart : (w : Stage) (n : ℕ) (asked : Call) (s : Subscription) → is_own t session n ≡ true → subscription_at n w.table.subscriptions ≡ Some s → IsApart w → IsApart (stage_after n s (fired (scene_at w n asked s)) w.table)
   live_apart w n asked s its found h = record {
     parts = λ k other. part s.session k other (h.subscriptions.own n s its found) ∙ h.parts k other;
     subscriptions = changed_apart n w.table.subscriptions (put_back n d.subscription w.table.subscriptions) its (λ m other. back_other n m d.subscription w.table.subscriptions other)
@@ -166,7 +165,7 @@ none_changes session t items = record {
   no_item_comes = λ m item found foreign. found;
 }
 
-added_others : (session : ℕ) (made : ℕ) (asked : Settings) (enabled : Bool) (w : World) → ((n : ℕ) (s : Subscription) → subscription_at n w.table.subscriptions ≡ Some s → n ≤ made) →
+added_others : (session : ℕ) (made : ℕ) (asked : Settings) (enabled : Bool) (w : Stage) → ((n : ℕ) (s : Subscription) → subscription_at n w.table.subscriptions ≡ Some s → n ≤ made) →
     OthersStay session w.table w.items (added session (made + 1) asked enabled w).table (added session (made + 1) asked enabled w).items
 unfolding added
 added_others session made asked enabled w given =
@@ -185,7 +184,7 @@ added_others session made asked enabled w given =
     fresh : (m : ℕ) (s : Subscription) → subscription_at m w.table.subscriptions ≡ Some s → m ≢ made + 1
     fresh m s found same = let most : m ≤ made = given m s found in absurd (omega (arith, most, same))
 
-refused_others : (session : ℕ) (asked : Settings) (enabled : Bool) (w : World) → OthersStay session w.table w.items (refused_one session asked enabled w).table (refused_one session asked enabled w).items
+refused_others : (session : ℕ) (asked : Settings) (enabled : Bool) (w : Stage) → OthersStay session w.table w.items (refused_one session asked enabled w).table (refused_one session asked enabled w).items
 unfolding refused_one
 refused_others session asked enabled w = subst (OthersStay session w.table w.items w.table) (sym (refused_items session asked enabled w)) (none_changes session w.table w.items)
 
@@ -198,11 +197,11 @@ created_stays : (r : Ran) (clock : Moment) (session : ℕ) (settings : Settings)
     Stays session r (ran_by r (created session settings enabled r.subs r.items clock))
 unfolding created refused created_one
 created_stays r clock session settings enabled given =
-    let w = world_of r.subs r.items clock in
+    let w = stage_of r.subs r.items clock in
     either (λ s. Stays session r (ran_by r s)) (is_full r.subs session) (refused session settings enabled r.subs w) (created_one session settings enabled r.subs w)
     (refused_others session settings enabled w) (added_others session r.subs.made settings enabled w given)
 
-begins_apart : (r : Ran) (clock : Moment) (session : ℕ) → IsRunKept r → IsApart session r.subs.table r.items (world_of r.subs r.items clock)
+begins_apart : (r : Ran) (clock : Moment) (session : ℕ) → IsRunKept r → IsApart session r.subs.table r.items (stage_of r.subs r.items clock)
 begins_apart r clock session k = record {
   parts = λ j other. refl;
   subscriptions = record { own = λ m s its found. inl (found_own session (subscription_at m r.subs.table.subscriptions) s found its); others = λ m foreign. refl; rising = k.calm.listed.subscriptions };
@@ -210,7 +209,7 @@ begins_apart r clock session k = record {
 }
 
 -- so what is of others stays
-apart_stays : (session : ℕ) (t : TableState) (items : ItemsState) (w : World) → IsApart session t items w → OthersStay session t items w.table w.items
+apart_stays : (session : ℕ) (t : TableState) (items : ItemsState) (w : Stage) → IsApart session t items w → OthersStay session t items w.table w.items
 apart_stays session t items w h = record {
   parts = h.parts;
   subscriptions = λ m s found other. h.subscriptions.others m (foreign m s found other) ∙ found;
@@ -248,25 +247,25 @@ IsIts session t (Loses conn) = ⊥
 IsIts session t b = Unit {0}
 
 -- those that are met are its own, or are so where they are named
-abbrev GivenIts : ℕ → TableState → Option ℕ → Call → World → List ℕ → Type 0
+abbrev GivenIts : ℕ → TableState → Option ℕ → Call → Stage → List ℕ → Type 0
 GivenIts session t whose asked w ns = (whose ≡ Some session) ⊎ AllByRecursion (λ (n : ℕ). is_own t session n ≡ true) ns
 
-rest_its : (session : ℕ) (t : TableState) (whose : Option ℕ) (asked : Call) (w v : World) (n : ℕ) (ns : List ℕ) → GivenIts session t whose asked w (n ∷ ns) → GivenIts session t whose asked v ns
+rest_its : (session : ℕ) (t : TableState) (whose : Option ℕ) (asked : Call) (w v : Stage) (n : ℕ) (ns : List ℕ) → GivenIts session t whose asked w (n ∷ ns) → GivenIts session t whose asked v ns
 rest_its session t whose asked w v n ns (inl is) = inl is
 rest_its session t whose asked w v n ns (inr its) = inr its.1
 
 module _ (session : ℕ) (t : TableState) (items : ItemsState) where
-  abbrev Apart : World → Type 0
+  abbrev Apart : Stage → Type 0
   Apart w = IsApart session t items w
 
-  abbrev StaysApart : World → List Encounter → World → Type 0
+  abbrev StaysApart : Stage → List Encounter → Stage → Type 0
   StaysApart w es v = AllByRecursion (OnBeside (IsIts session t)) es → Apart w → Apart v
 
   -- the session has another part
-  other_part : (own : ℕ) → own ≡ session → (part : SessionSubscriptions) (w : World) → Apart w → (k : ℕ) → k ≢ session → part_at k (set_value (is_at (nat_cmp own)) w.table.sessions part) ≡ part_at k t.sessions
+  other_part : (own : ℕ) → own ≡ session → (part : SessionSubscriptions) (w : Stage) → Apart w → (k : ℕ) → k ≢ session → part_at k (set_value (is_at (nat_cmp own)) w.table.sessions part) ≡ part_at k t.sessions
   other_part own is part w h k other = ap (λ (o : Option SessionSubscriptions). unwrap_or o no_part) (set_other own k part (λ same. other (same ∙ is)) w.table.sessions) ∙ h.parts k other
 
-  beside_apart : (w : World) (b : Beside) → IsIts session t b → Apart w → Apart (beside w b)
+  beside_apart : (w : Stage) (b : Beside) → IsIts session t b → Apart w → Apart (beside w b)
   unfolding all_refused
   beside_apart w (CallsItems number asked) is h = record { parts = h.parts; subscriptions = h.subscriptions; monitored = items_then session t items w.items _ number is (served_apart number asked w.items) h.monitored }
   beside_apart w (ShowsItems changed) is h = absurd is
@@ -285,7 +284,7 @@ module _ (session : ℕ) (t : TableState) (items : ItemsState) where
   beside_apart w (Loses conn) is h = absurd is
   beside_apart w b is h = record { parts = h.parts; subscriptions = h.subscriptions; monitored = h.monitored }
 
-  met_its : (whose : Option ℕ) (asked : Call) (w : World) (n : ℕ) (ns : List ℕ) → GivenIts session t whose asked w (n ∷ ns) → is_meant whose w n ≡ true → Apart w → is_own t session n ≡ true
+  met_its : (whose : Option ℕ) (asked : Call) (w : Stage) (n : ℕ) (ns : List ℕ) → GivenIts session t whose asked w (n ∷ ns) → is_meant whose w n ≡ true → Apart w → is_own t session n ≡ true
   met_its whose asked w n ns (inl is) meant h = own_now session t items w n h (subst (λ (o : Option ℕ). is_meant o w n ≡ true) is meant)
   met_its whose asked w n ns (inr its) meant h = its.0
 
@@ -307,10 +306,10 @@ plain_stays session r m plain k done given =
     subst (λ (after : TableState). OthersStay session t r.items after (moved r m).items) (sym is.table) (subst (OthersStay session t r.items (left r m).table) (sym is.items) (apart_stays session t r.items (left r m) h))
 
 -- those that a Publish request of the session comes to
-asked_its : (r : Ran) (clock : Moment) (session : ℕ) (acks : List SubscriptionAcknowledgement) → IsRunKept r → let v = ready session acks (world_of r.subs r.items clock) in
+asked_its : (r : Ran) (clock : Moment) (session : ℕ) (acks : List SubscriptionAcknowledgement) → IsRunKept r → let v = ready session acks (stage_of r.subs r.items clock) in
     AllByRecursion (λ (n : ℕ). is_own r.subs.table session n ≡ true) (asked_numbers v (part_at session v.table.sessions).numbers)
 asked_its r clock session acks k =
-    let v = ready session acks (world_of r.subs r.items clock) in
+    let v = ready session acks (stage_of r.subs r.items clock) in
     asked_are (λ (n : ℕ). is_own r.subs.table session n ≡ true) v (part_at session v.table.sessions).numbers
     (listed_are (λ (n : ℕ). is_own r.subs.table session n ≡ true) (part_at session v.table.sessions).numbers (λ m listed. lists_its r session k m (sym (ap (is_listed m) (same_numbers session r.subs.table.sessions)) ∙ listed)))
 

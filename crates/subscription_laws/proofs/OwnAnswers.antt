@@ -34,15 +34,15 @@ use Rattle.ua_subscriptions.specs.Named.{all_refused, without_requests}
 use Rattle.ua_subscriptions.specs.Publishing.{acknowledged_all, part_without_note, asked_by, with_results, ready, asked_numbers}
 use Rattle.ua_subscriptions.specs.Queues.{first_of}
 use Rattle.ua_subscriptions.specs.Scenes.{Sending, Scene, Noting, noting, sending, Queueing, with_refused, enqueued_by, enqueued, answered_by, note_sent, rest_sent, notes_sent, with_asked, dequeued, started, life_reset, done, row_done}
-use Rattle.ua_subscriptions.specs.SubscriptionCalls.{world_of}
+use Rattle.ua_subscriptions.specs.SubscriptionCalls.{stage_of}
 use Rattle.ua_subscriptions.specs.Subscriptions.{no_part}
-use Rattle.ua_subscriptions.specs.Tables.{TableState, World, with_call, without_closed, met_found, met, part_at, part_of, set_part, subscription_at}
+use Rattle.ua_subscriptions.specs.Tables.{TableState, Stage, met, part_at, part_of, set_part, subscription_at, stage_after, scene_at, met_by}
 use Rattle.ua_subscriptions.proofs.Choosing.{either}
 use Rattle.ua_subscriptions.proofs.MapEntries.{entries_found, entries_set, entries_removed, entries_inserted}
 use Rattle.ua_subscriptions.proofs.OwingRows.{all_append, all_dropped}
 use Rattle.subscription_laws.specs.Answering.{is_dequeueing, dequeues}
 use Rattle.subscription_laws.specs.Calm.{AreRising}
-use Rattle.subscription_laws.specs.Encounters.{Beside, Acknowledges, TellsNote, Refuses, Leaves, LeavesAll, Loses, beside, Encounter, Meets, Does, scene_at, is_meant, met_if, made_scene, encounters, all_encounters}
+use Rattle.subscription_laws.specs.Encounters.{Beside, Acknowledges, TellsNote, Refuses, Leaves, LeavesAll, Loses, beside, Encounter, Meets, Does, is_meant, met_if, made_scene, encounters, all_encounters}
 use Rattle.subscription_laws.specs.OwnRequests.{CameIn, WasOf, AnswersItsOwn, AreOwnAnswers}
 use Rattle.subscription_laws.specs.Actions.{rest_notings, notings}
 use Rattle.subscription_laws.specs.Numbering.{messages_of}
@@ -52,7 +52,7 @@ use Rattle.subscription_laws.proofs.Entries.{some_same}
 use Rattle.subscription_laws.proofs.AskedNumbers.{asked_are, listed_are}
 use Rattle.subscription_laws.proofs.ChosenRows.{publish_stays, timer_is_none}
 use Rattle.subscription_laws.proofs.Folds.{all_so, alone}
-use Rattle.subscription_laws.proofs.Keeping.{its_own, world_after, fired_stays}
+use Rattle.subscription_laws.proofs.Keeping.{its_own, fired_stays}
 use Rattle.subscription_laws.proofs.KeepingPublish.{ready_kept}
 use Rattle.subscription_laws.proofs.MessageNotes.{note_left, fired_notes}
 use Rattle.subscription_laws.proofs.RowRequests.{publish_takes_none}
@@ -276,21 +276,21 @@ module _ (P : ℕ → PublishCall → Type 0) (Q : ℕ → ℕ → Type 0) where
   Own (Does w b) = Unit {0}
 
   -- what a Publish may meet: one of the session in which its request came
-  abbrev MayAsk : World → ℕ → Type 0
+  abbrev MayAsk : Stage → ℕ → Type 0
   MayAsk w n = AreRising w.table.subscriptions × ((s : Subscription) → subscription_at n w.table.subscriptions ≡ Some s → (k : ℕ) × (s.session ≡ Some k) × Came (P k) w.round.asked)
 
-  abbrev May : Option ℕ → Call → World → List ℕ → Type 0
+  abbrev May : Option ℕ → Call → Stage → List ℕ → Type 0
   May whose asked w ns = asked ≡ call.Publish → (whose ≡ None) × AllByRecursion (MayAsk w) ns
 
   came_left : (k : ℕ) (before after : Option PublishCall) → IsLeft before after → Came (P k) before → Came (P k) after
   came_left k before after (inl none) h x e = absurd (cc)
   came_left k before after (inr same) h x e = h x (sym same ∙ e)
 
-  ask_keeps : (w : World) (n m : ℕ) → MayAsk w n → MayAsk w m → MayAsk (met w n call.Publish) m
+  ask_keeps : (w : Stage) (n m : ℕ) → MayAsk w n → MayAsk w m → MayAsk (met w n call.Publish) m
   unfolding met
   ask_keeps w n m a b = by (subscription_at n w.table.subscriptions) refl
     where
-      by : (o : Option Subscription) → subscription_at n w.table.subscriptions ≡ o → MayAsk (without_closed n (met_found (with_call w.round n call.Publish) w.table.subscriptions w.table.sessions w.items o)) m
+      by : (o : Option Subscription) → subscription_at n w.table.subscriptions ≡ o → MayAsk (met_by w n call.Publish o) m
       by None found = b
       by (Some s) found = (back_rises n d.subscription w.table.subscriptions a.0, λ u at_m. after u (back_is n s d.subscription w.table.subscriptions a.0 found m u at_m))
         where
@@ -307,31 +307,31 @@ module _ (P : ℕ → PublishCall → Type 0) (Q : ℕ → ℕ → Type 0) where
           after u (inl p) = let x = a.1 s found in (x.0, ap (λ (t : Subscription). t.session) p.is ∙ stays ∙ x.1, came_left x.0 w.round.asked d.round.asked gone x.2)
           after u (inr p) = let x = b.1 u p.1 in (x.0, x.1, came_left x.0 w.round.asked d.round.asked gone x.2)
 
-  rest_may : (w : World) (n : ℕ) (ns : List ℕ) → MayAsk w n → AllByRecursion (MayAsk w) ns → AllByRecursion (MayAsk (met w n call.Publish)) ns
+  rest_may : (w : Stage) (n : ℕ) (ns : List ℕ) → MayAsk w n → AllByRecursion (MayAsk w) ns → AllByRecursion (MayAsk (met w n call.Publish)) ns
   rest_may w n ns one all = all_so (MayAsk w) (MayAsk (met w n call.Publish)) (λ m may. ask_keeps w n m one may) ns all
 
-  rest_of_may : (whose : Option ℕ) (asked : Call) (w : World) (n : ℕ) (ns : List ℕ) → May whose asked w (n ∷ ns) → May whose asked (met_if (is_meant whose w n) w n asked) ns
+  rest_of_may : (whose : Option ℕ) (asked : Call) (w : Stage) (n : ℕ) (ns : List ℕ) → May whose asked w (n ∷ ns) → May whose asked (met_if (is_meant whose w n) w n asked) ns
   rest_of_may None asked w n ns h = λ is. let x = (h is).1 in (refl, subst (λ (c : Call). AllByRecursion (MayAsk (met w n c)) ns) (sym is) (rest_may w n ns x.0 x.1))
   rest_of_may (Some session) asked w n ns h = λ is. let clash : Some session ≡ None = (h is).0 in absurd (cc)
 
   -- ---- one subscription
 
   -- whether its row uses the request that came
-  abbrev Uses : World → ℕ → Call → Subscription → Type 0
+  abbrev Uses : Stage → ℕ → Call → Subscription → Type 0
   Uses w n asked s = uses_asked (row_of (scene_at w n asked s)) ≡ true → (k : ℕ) × (s.session ≡ Some k) × Came (P k) w.round.asked
 
-  uses : (w : World) (n : ℕ) (asked : Call) (s : Subscription) → (asked ≡ call.Publish → MayAsk w n) → subscription_at n w.table.subscriptions ≡ Some s → Uses w n asked s
+  uses : (w : Stage) (n : ℕ) (asked : Call) (s : Subscription) → (asked ≡ call.Publish → MayAsk w n) → subscription_at n w.table.subscriptions ≡ Some s → Uses w n asked s
   uses w n asked s may found e = by (is_publish asked) refl
     where
       by : (b : Bool) → is_publish asked ≡ b → (k : ℕ) × (s.session ≡ Some k) × Came (P k) w.round.asked
       by true is = (may (it asked is)).1 s found
       by false is = absurd (false≢true (sym (others_use_none asked (before_by asked (scene_at w n asked s)) is) ∙ e))
 
-  came_to_it : (w : World) (s : Subscription) (j : ℕ) → s.session ≡ Some j → (k : ℕ) × (s.session ≡ Some k) × Came (P k) w.round.asked → Came (P j) w.round.asked
+  came_to_it : (w : Stage) (s : Subscription) (j : ℕ) → s.session ≡ Some j → (k : ℕ) × (s.session ≡ Some k) × Came (P k) w.round.asked → Came (P j) w.round.asked
   came_to_it w s j is y = let same : y.0 ≡ j = some_same (sym y.1 ∙ is) in subst (λ (i : ℕ). Came (P i) w.round.asked) same y.2
 
   -- the requests of one that is of no session are none
-  scene_own : (w : World) (n : ℕ) (asked : Call) (s : Subscription) (o : Option ℕ) → s.session ≡ o → AreOwn w.table.sessions → Uses w n asked s → Own (Meets (scene_at w n asked s))
+  scene_own : (w : Stage) (n : ℕ) (asked : Call) (s : Subscription) (o : Option ℕ) → s.session ≡ o → AreOwn w.table.sessions → Uses w n asked s → Own (Meets (scene_at w n asked s))
   scene_own w n asked s None is h u =
       all_so (Of (λ (q : PublishCall). ⊥)) (OwnTelling (scene_at w n asked s)) (λ t e. absurd e) (told_at (Meets (scene_at w n asked s)))
       (row_tells (λ (q : PublishCall). ⊥) (row_of (scene_at w n asked s)) (scene_at w n asked s) (subst (λ (p : Option ℕ). AllByRecursion (λ (q : PublishCall). ⊥) (part_of p w.table.sessions).requests) (sym is) tt)
@@ -341,7 +341,7 @@ module _ (P : ℕ → PublishCall → Type 0) (Q : ℕ → ℕ → Type 0) where
       (row_tells (P j) (row_of (scene_at w n asked s)) (scene_at w n asked s) (subst (λ (p : Option ℕ). AllByRecursion (P j) (part_of p w.table.sessions).requests) (sym is) (own_part j w.table.sessions h).0)
       (λ e. came_to_it w s j is (u e)))
 
-  part_own : (w : World) (n : ℕ) (asked : Call) (s : Subscription) (j : ℕ) → s.session ≡ Some j → AreOwn w.table.sessions → Uses w n asked s → Q j n → IsOwn (j, (fired (scene_at w n asked s)).part)
+  part_own : (w : Stage) (n : ℕ) (asked : Call) (s : Subscription) (j : ℕ) → s.session ≡ Some j → AreOwn w.table.sessions → Uses w n asked s → Q j n → IsOwn (j, (fired (scene_at w n asked s)).part)
   part_own w n asked s j is h u its = (
     fired_waits (P j) c was.0 (λ e. came_to_it w s j is (u e)),
     by (fired_notes c),
@@ -357,17 +357,17 @@ module _ (P : ℕ → PublishCall → Type 0) (Q : ℕ → ℕ → Type 0) where
       by (inl same) = subst (AllByRecursion (IsNote j)) (sym same) was.1
       by (inr (more, closed, none)) = subst (AllByRecursion (IsNote j)) (sym more) (all_append (IsNote j) c.part.notes (note_left c ∷ []) was.1 (its, tt))
 
-  sessions_own : (w : World) (n : ℕ) (asked : Call) (s : Subscription) (o : Option ℕ) → s.session ≡ o → AreOwn w.table.sessions → Uses w n asked s → ((k : ℕ) → s.session ≡ Some k → Q k n) →
+  sessions_own : (w : Stage) (n : ℕ) (asked : Call) (s : Subscription) (o : Option ℕ) → s.session ≡ o → AreOwn w.table.sessions → Uses w n asked s → ((k : ℕ) → s.session ≡ Some k → Q k n) →
       AreOwn (set_part o w.table.sessions (fired (scene_at w n asked s)).part)
   sessions_own w n asked s None is h u its = h
   sessions_own w n asked s (Some j) is h u its = entries_set IsOwn j (fired (scene_at w n asked s)).part w.table.sessions (part_own w n asked s j is h u (its j is)) h
 
   -- ---- any call
 
-  abbrev KeepsOwn : World → List Encounter → World → Type 0
+  abbrev KeepsOwn : Stage → List Encounter → Stage → Type 0
   KeepsOwn w es v = AllByRecursion IsGood es → AreOwn w.table.sessions → AllByRecursion Own es × AreOwn v.table.sessions
 
-  beside_own : (w : World) (b : Beside) → Fits w b → IsGood (Does w b) → AreOwn w.table.sessions → Own (Does w b) × AreOwn (beside w b).table.sessions
+  beside_own : (w : Stage) (b : Beside) → Fits w b → IsGood (Does w b) → AreOwn w.table.sessions → Own (Does w b) × AreOwn (beside w b).table.sessions
   unfolding all_refused
   beside_own w (TellsNote session asked note) fits good h = ((first_is (IsNote session) (part_at session w.table.sessions).notes note (own_part session w.table.sessions h).1 fits, good), h)
   beside_own w (Acknowledges session acks) fits good h =
@@ -380,13 +380,13 @@ module _ (P : ℕ → PublishCall → Type 0) (Q : ℕ → ℕ → Type 0) where
   beside_own w (Loses conn) fits good h = (tt, own_conn conn w.table.sessions h)
   beside_own w b fits good h = (tt, h)
 
-  one_own : (whose : Option ℕ) (asked : Call) (w : World) (n : ℕ) (ns : List ℕ) (s : Subscription) → May whose asked w (n ∷ ns) → subscription_at n w.table.subscriptions ≡ Some s →
-      KeepsOwn w (Meets (scene_at w n asked s) ∷ []) (world_after n s (fired (scene_at w n asked s)) w.table)
+  one_own : (whose : Option ℕ) (asked : Call) (w : Stage) (n : ℕ) (ns : List ℕ) (s : Subscription) → May whose asked w (n ∷ ns) → subscription_at n w.table.subscriptions ≡ Some s →
+      KeepsOwn w (Meets (scene_at w n asked s) ∷ []) (stage_after n s (fired (scene_at w n asked s)) w.table)
   one_own whose asked w n ns s given found good h =
       let u = uses w n asked s (λ is. (given is).1.0) found in
       ((scene_own w n asked s s.session refl h u, tt), sessions_own w n asked s s.session refl h u good.0)
 
-  next_own : (w v u : World) (es fs : List Encounter) → KeepsOwn w es v → KeepsOwn v fs u → KeepsOwn w (es ++ fs) u
+  next_own : (w v u : Stage) (es fs : List Encounter) → KeepsOwn w es v → KeepsOwn v fs u → KeepsOwn w (es ++ fs) u
   next_own w v u es fs p q good h =
       let goods = all_split IsGood es fs good in
       let x = p goods.0 h in
@@ -403,17 +403,17 @@ module _ (P : ℕ → PublishCall → Type 0) (Q : ℕ → ℕ → Type 0) where
     one = λ whose asked w n ns s plain given meant found. one_own whose asked w n ns s given found;
   }
 
-  own_refused : (session number : ℕ) (settings : Settings) (enabled : Bool) (w : World) → KeepsOwn w (Meets (made_scene true number session settings enabled w) ∷ []) (refused_one session settings enabled w)
+  own_refused : (session number : ℕ) (settings : Settings) (enabled : Bool) (w : Stage) → KeepsOwn w (Meets (made_scene true number session settings enabled w) ∷ []) (refused_one session settings enabled w)
   unfolding refused_one
   own_refused session number settings enabled w good h = ((tt, tt), h)
 
-  own_added : (session number : ℕ) (settings : Settings) (enabled : Bool) (w : World) → KeepsOwn w (Meets (made_scene false number session settings enabled w) ∷ []) (added session number settings enabled w)
+  own_added : (session number : ℕ) (settings : Settings) (enabled : Bool) (w : Stage) → KeepsOwn w (Meets (made_scene false number session settings enabled w) ∷ []) (added session number settings enabled w)
   unfolding added fired row_done
   own_added session number settings enabled w good h =
       ((tt, tt), entries_inserted IsOwn session _ (remove_entry (is_at (nat_cmp session)) w.table.sessions) (own_part session w.table.sessions h) (entries_removed IsOwn (is_at (nat_cmp session)) w.table.sessions h))
 
   own_making : FollowsMaking KeepsOwn
-  own_making = record { refuses = own_refused; adds = λ r clock session settings enabled room. own_added session (r.subs.made + 1) settings enabled (world_of r.subs r.items clock) }
+  own_making = record { refuses = own_refused; adds = λ r clock session settings enabled room. own_added session (r.subs.made + 1) settings enabled (stage_of r.subs r.items clock) }
 
   -- a request has what is asked, whatever became of its acknowledgements
   abbrev Asks : Move → Type 0
@@ -421,10 +421,10 @@ module _ (P : ℕ → PublishCall → Type 0) (Q : ℕ → ℕ → Type 0) where
   Asks m = Unit {0}
 
   publish_begins : (r : Ran) (clock : Moment) (session : ℕ) (asked : PublishCall) (acks : List SubscriptionAcknowledgement) → IsRunKept r → Asks (Move.Publish clock session asked acks) →
-      let v = ready session acks (world_of r.subs r.items clock) in
+      let v = ready session acks (stage_of r.subs r.items clock) in
       AllByRecursion (MayAsk (asked_by v (with_results asked (acknowledged_all session r.subs.table.subscriptions acks).results))) (asked_numbers v (part_at session v.table.sessions).numbers)
   publish_begins r clock session asked acks kept good =
-      let w = world_of r.subs r.items clock in
+      let w = stage_of r.subs r.items clock in
       let v = ready session acks w in
       let results = (acknowledged_all session r.subs.table.subscriptions acks).results in
       let u = asked_by v (with_results asked results) in

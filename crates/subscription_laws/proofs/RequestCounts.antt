@@ -32,15 +32,14 @@ use Rattle.ua_subscriptions.specs.Publishing.{acknowledged_all, note_of, part_wi
 use Rattle.ua_subscriptions.specs.Queues.{first_of}
 use Rattle.ua_subscriptions.specs.Scenes as scenes
 use Rattle.ua_subscriptions.specs.Scenes.{Scene, Noting, Queueing, Sending, noting, sending, note_sent, rest_sent, notes_sent, with_asked, with_refused, enqueued, enqueued_by, counted, subscription_noted, message_made, done, all_done, row_done}
-use Rattle.ua_subscriptions.specs.SubscriptionCalls.{world_of}
+use Rattle.ua_subscriptions.specs.SubscriptionCalls.{stage_of}
 use Rattle.ua_subscriptions.specs.Subscriptions.{no_part}
-use Rattle.ua_subscriptions.specs.Tables.{TableState, World, part_at, part_of, set_part}
+use Rattle.ua_subscriptions.specs.Tables.{TableState, Stage, part_at, part_of, set_part, stage_after, scene_at}
 use Rattle.subscription_laws.specs.Requests.{one_if, such_calls, such_waiting, such_answers, came_by, such_came}
 use Rattle.ua_subscriptions.proofs.Choosing.{either}
-use Rattle.subscription_laws.proofs.Keeping.{world_after}
 use Rattle.subscription_laws.proofs.Walks.{left, left_is, Follows, FollowsMaking, Any, any_begins, walked, DoneBy, OnBeside, meet_done, each_done}
 use Rattle.subscription_laws.specs.Runs.{Move, Ran, start, moved, run}
-use Rattle.subscription_laws.specs.Encounters.{Beside, Acknowledges, Asks, TellsNote, TellsNone, Refuses, Leaves, LeavesAll, Loses, beside, Encounter, Meets, Does, scene_at, all_meet, asked_encounters, noted_encounters, encounters}
+use Rattle.subscription_laws.specs.Encounters.{Beside, Acknowledges, Asks, TellsNote, TellsNone, Refuses, Leaves, LeavesAll, Loses, beside, Encounter, Meets, Does, all_meet, asked_encounters, noted_encounters, encounters}
 
 module _ (such : Origin → Bool) where
   -- ---- lists
@@ -156,8 +155,8 @@ module _ (such : Origin → Bool) where
 
   -- ---- what a subscription meets
 
-  abbrev of_world : World → ℕ
-  of_world w = of_round w.round + such_waiting such w.table.sessions
+  abbrev of_stage : Stage → ℕ
+  of_stage w = of_round w.round + such_waiting such w.table.sessions
 
   set_less : (k : ℕ) (part : SessionSubscriptions) (sessions : List (ℕ × SessionSubscriptions)) →
       such_waiting such (set_value (is_at (nat_cmp k)) sessions part) + such_calls such (part_at k sessions).requests ≤ such_waiting such sessions + such_calls such part.requests
@@ -175,7 +174,7 @@ module _ (such : Origin → Bool) where
   part_less None part sessions = omega arith
   part_less (Some k) part sessions = set_less k part sessions
 
-  one_less : (w : World) (n : ℕ) (asked : Call) (s : Subscription) → of_world (world_after n s (fired (scene_at w n asked s)) w.table) ≤ of_world w
+  one_less : (w : Stage) (n : ℕ) (asked : Call) (s : Subscription) → of_stage (stage_after n s (fired (scene_at w n asked s)) w.table) ≤ of_stage w
   one_less w n asked s =
       let d = fired (scene_at w n asked s) in
       let h : of_scene d ≤ of_round w.round + such_calls such (part_of s.session w.table.sessions).requests = fired_less (scene_at w n asked s) in
@@ -185,7 +184,7 @@ module _ (such : Origin → Bool) where
 
   -- ---- what is done beside
 
-  refused_less : (session : ℕ) (code : Status) (w : World) → of_world (all_refused session code w) ≤ of_world w
+  refused_less : (session : ℕ) (code : Status) (w : Stage) → of_stage (all_refused session code w) ≤ of_stage w
   unfolding all_refused
   refused_less session code w =
       let part = part_at session w.table.sessions in
@@ -210,7 +209,7 @@ module _ (such : Origin → Bool) where
   all_waiting [] = refl
   all_waiting (e ∷ sessions) = calls-append e.1.requests (all_requests (values_of sessions)) ∙ ap (λ (n : ℕ). such_calls such e.1.requests + n) (all_waiting sessions)
 
-  all_left_less : (code : Status) (w : World) → of_world (all_left code w) ≤ of_world w
+  all_left_less : (code : Status) (w : Stage) → of_stage (all_left code w) ≤ of_stage w
   all_left_less code w =
       let calls = all_requests (values_of w.table.sessions) in
       let sum : such_answers such (w.round.replies ++ map (refused_of w.round.clock code) calls) ≡ such_answers such w.round.replies + such_answers such (map (refused_of w.round.clock code) calls) = answers-append w.round.replies (map (refused_of w.round.clock code) calls) in
@@ -232,7 +231,7 @@ module _ (such : Origin → Bool) where
 
   -- ---- one that is made
 
-  refused_one_less : (session : ℕ) (asked : Settings) (enabled : Bool) (w : World) → of_world (refused_one session asked enabled w) ≤ of_world w
+  refused_one_less : (session : ℕ) (asked : Settings) (enabled : Bool) (w : Stage) → of_stage (refused_one session asked enabled w) ≤ of_stage w
   unfolding refused_one
   refused_one_less session asked enabled w =
       let h : of_scene (refused_scene session asked enabled w) ≤ of_round w.round + 0 = fired_less _ in
@@ -249,7 +248,7 @@ module _ (such : Origin → Bool) where
       by Equal h = omega arith
       by Greater h = omega (arith, h)
 
-  added_less : (session number : ℕ) (asked : Settings) (enabled : Bool) (w : World) → of_world (added session number asked enabled w) ≤ of_world w
+  added_less : (session number : ℕ) (asked : Settings) (enabled : Bool) (w : Stage) → of_stage (added session number asked enabled w) ≤ of_stage w
   unfolding added
   added_less session number asked enabled w =
       let d = added_scene session number asked enabled w in
@@ -287,14 +286,14 @@ module _ (such : Origin → Bool) where
   none_asked (Meets c ∷ es) h = let rest : such_asked es ≡ 0 = none_asked es h.1 in omega (arith, rest)
   none_asked (Does w b ∷ es) h = let first : asked_beside b ≡ 0 = h.0 in let rest : such_asked es ≡ 0 = none_asked es h.1 in omega (arith, first, rest)
 
-  asked_once : (ns : List ℕ) (asked : PublishCall) (w : World) → such_asked (asked_encounters ns asked w) ≤ one_if (such asked.origin)
+  asked_once : (ns : List ℕ) (asked : PublishCall) (w : Stage) → such_asked (asked_encounters ns asked w) ≤ one_if (such asked.origin)
   asked_once [] asked w = omega arith
   asked_once (n ∷ ns) asked w =
       let met = all_meet None call.Publish (asked_by w asked) (asked_numbers w (n ∷ ns)) in
       let h : such_asked met ≡ 0 = none_asked met (meet_done AsksNone None call.Publish (asked_numbers w (n ∷ ns)) (asked_by w asked)) in
       omega (arith, h)
 
-  noted_once : (note : Option TimeoutNote) (session : ℕ) (asked : PublishCall) (acks : List SubscriptionAcknowledgement) (w : World) → such_asked (noted_encounters note session asked acks w) ≤ one_if (such asked.origin)
+  noted_once : (note : Option TimeoutNote) (session : ℕ) (asked : PublishCall) (acks : List SubscriptionAcknowledgement) (w : Stage) → such_asked (noted_encounters note session asked acks w) ≤ one_if (such asked.origin)
   noted_once (Some note) session asked acks w = omega arith
   noted_once None session asked acks w = let v = ready session acks w in let h : such_asked (asked_encounters (part_at session v.table.sessions).numbers asked v) ≤ one_if (such asked.origin) = asked_once (part_at session v.table.sessions).numbers asked v in omega (arith, h)
 
@@ -303,7 +302,7 @@ module _ (such : Origin → Bool) where
 
   as_came : (r : Ran) (m : Move) → such_asked (encounters r m) ≤ came_by such m
   as_came r (Move.Publish clock session asked acks) =
-      let w = world_of r.subs r.items clock in
+      let w = stage_of r.subs r.items clock in
       noted_once (note_of session w.table.sessions) session (with_results asked (acknowledged_all session w.table.subscriptions acks).results) acks w
   as_came r (Move.Delete clock session numbers) = none_comes r (Move.Delete clock session numbers) refl
   as_came r (Move.EndSession clock session deleting) = none_comes r (Move.EndSession clock session deleting) (refl, refl)
@@ -315,10 +314,10 @@ module _ (such : Origin → Bool) where
 
   -- ---- any calls
 
-  abbrev Grows : World → List Encounter → World → Type 0
-  Grows w es v = of_world v ≤ of_world w + such_asked es
+  abbrev Grows : Stage → List Encounter → Stage → Type 0
+  Grows w es v = of_stage v ≤ of_stage w + such_asked es
 
-  beside_less : (w : World) (b : Beside) → Grows w (Does w b ∷ []) (beside w b)
+  beside_less : (w : Stage) (b : Beside) → Grows w (Does w b ∷ []) (beside w b)
   beside_less w (Acknowledges session acks) =
       let part = part_at session w.table.sessions in
       let k : such_waiting such (set_value (is_at (nat_cmp session)) w.table.sessions (part_without_note part)) + such_calls such part.requests ≤ such_waiting such w.table.sessions + such_calls such part.requests =
@@ -330,15 +329,15 @@ module _ (such : Origin → Bool) where
   beside_less w (TellsNone asked) =
       let sum : such_answers such (beside w (TellsNone asked)).round.replies ≡ such_answers such w.round.replies + (one_if (such asked.origin) + 0) = answers-append w.round.replies _ in
       omega (arith, sum)
-  beside_less w (Refuses session code) = let h : of_world (all_refused session code w) ≤ of_world w = refused_less session code w in omega (arith, h)
+  beside_less w (Refuses session code) = let h : of_stage (all_refused session code w) ≤ of_stage w = refused_less session code w in omega (arith, h)
   beside_less w (Leaves session) =
       let g : such_waiting such (remove_entry (is_at (nat_cmp session)) w.table.sessions) + such_calls such (part_at session w.table.sessions).requests ≤ such_waiting such w.table.sessions = removed_less session w.table.sessions in
       omega (arith, g)
-  beside_less w (LeavesAll code) = let h : of_world (all_left code w) ≤ of_world w = all_left_less code w in omega (arith, h)
+  beside_less w (LeavesAll code) = let h : of_stage (all_left code w) ≤ of_stage w = all_left_less code w in omega (arith, h)
   beside_less w (Loses conn) = let h : such_waiting such (map (entry_without_conn conn) w.table.sessions) ≤ such_waiting such w.table.sessions = gone_less conn w.table.sessions in omega (arith, h)
   beside_less w b = omega arith
 
-  next_less : (w v u : World) (es fs : List Encounter) → Grows w es v → Grows v fs u → Grows w (es ++ fs) u
+  next_less : (w v u : Stage) (es fs : List Encounter) → Grows w es v → Grows v fs u → Grows w (es ++ fs) u
   next_less w v u es fs p q = let sum : such_asked (es ++ fs) ≡ such_asked es + such_asked fs = asked-append es fs in omega (arith, p, q, sum)
 
   no_more : (n k : ℕ) → n ≤ k → n ≤ k + 0
@@ -357,7 +356,7 @@ module _ (such : Origin → Bool) where
   less_making : FollowsMaking Grows
   less_making = record {
     refuses = λ session number settings enabled w. no_more _ _ (refused_one_less session settings enabled w);
-    adds = λ r clock session settings enabled room. no_more _ _ (added_less session (r.subs.made + 1) settings enabled (world_of r.subs r.items clock));
+    adds = λ r clock session settings enabled room. no_more _ _ (added_less session (r.subs.made + 1) settings enabled (stage_of r.subs r.items clock));
   }
 
   abbrev of_ran : Ran → ℕ
@@ -366,7 +365,7 @@ module _ (such : Origin → Bool) where
   call_less : (r : Ran) (m : Move) → of_ran (moved r m) ≤ of_ran r + came_by such m
   call_less r m =
       let v = left r m in
-      let h : of_world v ≤ 0 + 0 + such_waiting such r.subs.table.sessions + such_asked (encounters r m) = walked Any Grows follows_less less_making r m (any_begins r m) in
+      let h : of_stage v ≤ 0 + 0 + such_waiting such r.subs.table.sessions + such_asked (encounters r m) = walked Any Grows follows_less less_making r m (any_begins r m) in
       let came : such_asked (encounters r m) ≤ came_by such m = as_came r m in
       let sum : such_answers such (r.replies ++ v.round.replies) ≡ such_answers such r.replies + such_answers such v.round.replies = answers-append r.replies v.round.replies in
       let replies : such_answers such (moved r m).replies ≡ such_answers such (r.replies ++ v.round.replies) = ap (such_answers such) (left_is r m).replies in

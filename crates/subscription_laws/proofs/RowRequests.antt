@@ -19,9 +19,8 @@ use Rattle.ua_state_table.specs.Steady.{waits_in}
 use Rattle.ua_subscriptions.specs.Ranks.{is_waiting}
 use Rattle.ua_subscriptions.specs.Scenes.{Scene}
 use Rattle.ua_subscriptions.specs.Subscriptions.{is_any}
-use Rattle.ua_subscriptions.specs.Tables.{World}
+use Rattle.ua_subscriptions.specs.Tables.{Stage, scene_at}
 use Rattle.subscription_laws.specs.Answering.{sends, dequeues, answering}
-use Rattle.subscription_laws.specs.Encounters.{scene_at}
 use Rattle.subscription_laws.proofs.ChosenRows.{publish_is_none}
 
 -- a row that sends has a request to answer
@@ -76,7 +75,7 @@ timer_gives c = by (answers (vars_in c)).last_life
 pub publish_takes_none : (s : State) (a : Answers) → dequeues (publish_row s a) ≡ false
 publish_takes_none = publish_is_none dequeues refl refl refl refl refl refl
 
-pub asked_given : (w : World) (n : ℕ) (call : PublishCall) → w.round.asked ≡ Some call → (s : Subscription) → IsGiven (row_of (scene_at w n Publish s)) (scene_at w n Publish s)
+pub asked_given : (w : Stage) (n : ℕ) (call : PublishCall) → w.round.asked ≡ Some call → (s : Subscription) → IsGiven (row_of (scene_at w n Publish s)) (scene_at w n Publish s)
 asked_given w n call is s h =
     let c = scene_at w n Publish s in
     (call, ap (λ (b : Bool). cond b (first_of c.part.requests) c.round.asked) (publish_takes_none s.state (answers (vars_in c))) ∙ is)
@@ -88,7 +87,7 @@ calm_sends_none Late a calm = absurd (cc)
 calm_sends_none KeepAlive a calm = refl
 calm_sends_none Closed a calm = refl
 
-pub calm_given : (w : World) (n : ℕ) (s : Subscription) → is_waiting s ≡ false → IsGiven (row_of (scene_at w n Publish s)) (scene_at w n Publish s)
+pub calm_given : (w : Stage) (n : ℕ) (s : Subscription) → is_waiting s ≡ false → IsGiven (row_of (scene_at w n Publish s)) (scene_at w n Publish s)
 calm_given w n s calm h = absurd (false≢true (sym (calm_sends_none s.state (answers (vars_in (scene_at w n Publish s))) calm) ∙ h))
 
 -- ---- any call

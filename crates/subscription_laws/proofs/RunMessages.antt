@@ -21,16 +21,16 @@ use Rattle.ua_subscriptions.specs.declared.subscription.Subscription.{Subscripti
 use Rattle.ua_subscriptions.specs.Ending.{without_session, without_conn}
 use Rattle.ua_subscriptions.specs.Firing.{fired}
 use Rattle.ua_subscriptions.specs.Messages.{has_number}
-use Rattle.ua_subscriptions.specs.Making.{kept_at, republished, refused_one, added, bytes_of, kept_by, with_number}
+use Rattle.ua_subscriptions.specs.Making.{kept_at, republished, refused_one, added, bytes_of, kept_bytes_by, with_number}
 use Rattle.subscription_laws.specs.Messaging.{Made, made_at, moved_made, run_made, messages_for, AreAmong, AreItsMessages, IsAmong, AreNotes}
 use Rattle.ua_subscriptions.specs.Named.{outcome, is_own, all_refused, without_requests}
 use Rattle.subscription_laws.specs.Numbering.{AreNumbered}
 use Rattle.ua_subscriptions.specs.Publishing.{without_kept, acknowledged_all, without_note, part_without_note}
-use Rattle.subscription_laws.specs.Encounters.{Beside, Acknowledges, Refuses, Leaves, LeavesAll, Loses, beside, Encounter, Meets, Does, scene_at, made_scene}
+use Rattle.subscription_laws.specs.Encounters.{Beside, Acknowledges, Refuses, Leaves, LeavesAll, Loses, beside, Encounter, Meets, Does, made_scene}
 use Rattle.subscription_laws.specs.Runs.{Move, Ran, start, ran_by, moved, run}
 use Rattle.ua_subscriptions.specs.Scenes.{row_done}
-use Rattle.ua_subscriptions.specs.SubscriptionCalls.{world_of, is_full, refused, created_one, created}
-use Rattle.ua_subscriptions.specs.Tables.{World, met, part_at, subscription_at, TableState}
+use Rattle.ua_subscriptions.specs.SubscriptionCalls.{stage_of, is_full, refused, created_one, created}
+use Rattle.ua_subscriptions.specs.Tables.{Stage, met, part_at, subscription_at, TableState, stage_after, scene_at}
 use Rattle.ua_subscriptions.specs.declared.session_part.SessionSubscriptions.{SessionSubscriptions}
 use Rattle.ua_subscriptions.proofs.Choosing.{either}
 use Rattle.ua_subscriptions.proofs.OwingRows.{all_dropped}
@@ -39,7 +39,6 @@ use Rattle.subscription_laws.proofs.Folds.{all_so}
 use Rattle.subscription_laws.proofs.KeepingParts.{of_set, of_gone, of_put, conn_fewer, conn_part}
 use Rattle.subscription_laws.proofs.ChosenRows.{is_create}
 use Rattle.subscription_laws.proofs.Entries.{each_set, each_put, some_same, set_other, rising_set, put_other, rising_put, rising_gone}
-use Rattle.subscription_laws.proofs.Keeping.{world_after}
 use Rattle.subscription_laws.proofs.KeepingMade.{added_start}
 use Rattle.subscription_laws.proofs.MessageLists.{forgotten_among}
 use Rattle.subscription_laws.proofs.MessageNotes.{IsNote, AllNotes, IsMessaged, all_notes, note_apart, fired_same_notes, one_messaged}
@@ -57,12 +56,12 @@ part_messaged made ms t session part notes h = record {
   notes = of_set session part t.sessions (λ (k : ℕ) (p : SessionSubscriptions). AllNotes made ms t.subscriptions p.notes) notes h.notes;
 }
 
-refused_numbered : (made : ℕ) (ms : List Made) (session : ℕ) (code : Status) (w : World) → IsMessaged made ms w.table → IsMessaged made ms (all_refused session code w).table
+refused_numbered : (made : ℕ) (ms : List Made) (session : ℕ) (code : Status) (w : Stage) → IsMessaged made ms w.table → IsMessaged made ms (all_refused session code w).table
 unfolding all_refused
 refused_numbered made ms session code w h = part_messaged made ms w.table session (without_requests (part_at session w.table.sessions)) (h.notes session) h
 
 -- nothing of a session is left
-without_numbered : (made : ℕ) (ms : List Made) (session : ℕ) (w : World) → IsMessaged made ms w.table → IsMessaged made ms (without_session session w).table
+without_numbered : (made : ℕ) (ms : List Made) (session : ℕ) (w : Stage) → IsMessaged made ms w.table → IsMessaged made ms (without_session session w).table
 without_numbered made ms session w h = record {
   rising = rising_gone session w.table.sessions h.rising;
   numbered = h.numbered;
@@ -79,7 +78,7 @@ gone_numbered made ms conn t h = record {
 
 -- ---- one that is made
 
-begun_number : (session number : ℕ) (asked : Settings) (enabled : Bool) (w : World) → let s = (fired (added_start session number asked enabled w)).subscription in (s.number ≡ 0) × (s.kept ≡ [])
+begun_number : (session number : ℕ) (asked : Settings) (enabled : Bool) (w : Stage) → let s = (fired (added_start session number asked enabled w)).subscription in (s.number ≡ 0) × (s.kept ≡ [])
 unfolding fired row_done
 begun_number session number asked enabled w = (refl, refl)
 
@@ -102,7 +101,7 @@ note_stays made ms subscriptions s note h =
     let most : note.subscription ≤ made = h.given in
     record { number = h.number; over = put_other (made + 1) note.subscription s (λ same. absurd (omega (arith, most, same))) subscriptions ∙ h.over; given = omega (arith, most) }
 
-added_numbered : (made : ℕ) (ms : List Made) (session : ℕ) (asked : Settings) (enabled : Bool) (w : World) → IsMessaged made ms w.table →
+added_numbered : (made : ℕ) (ms : List Made) (session : ℕ) (asked : Settings) (enabled : Bool) (w : Stage) → IsMessaged made ms w.table →
     IsMessaged (made + 1) ms (added session (made + 1) asked enabled w).table
 unfolding added
 added_numbered made ms session asked enabled w h =
@@ -118,7 +117,7 @@ added_numbered made ms session asked enabled w h =
           (subst (AllNotes (made + 1) ms after) (sym (fired_same_notes c refl)) (old session)) (λ k other. old k);
     }
 
-refused_one_same : (session : ℕ) (asked : Settings) (enabled : Bool) (w : World) → (refused_one session asked enabled w).table ≡ w.table
+refused_one_same : (session : ℕ) (asked : Settings) (enabled : Bool) (w : Stage) → (refused_one session asked enabled w).table ≡ w.table
 unfolding refused_one
 refused_one_same session asked enabled w = refl
 
@@ -169,10 +168,10 @@ note_removed made ms session t h =
 none_more : (made : ℕ) (ms : List Made) (t : TableState) → IsMessaged made ms t → IsMessaged made (ms ++ []) t
 none_more made ms t h = subst (λ (xs : List Made). IsMessaged made xs t) (sym (append-nil ms)) h
 
-abbrev pub Numbers : World → List Encounter → World → Type 0
+abbrev pub Numbers : Stage → List Encounter → Stage → Type 0
 Numbers w es v = (made : ℕ) (ms : List Made) → IsMessaged made ms w.table → IsMessaged made (ms ++ flat_map made_at es) v.table
 
-beside_numbers : (w : World) (b : Beside) → Numbers w (Does w b ∷ []) (beside w b)
+beside_numbers : (w : Stage) (b : Beside) → Numbers w (Does w b ∷ []) (beside w b)
 beside_numbers w (Acknowledges session acks) made ms h =
     let numbered = all_acknowledged session (λ (subscriptions : List (ℕ × Subscription)). IsMessaged made ms (with_table w.table.sessions subscriptions))
     (λ subscriptions n number s found its k. message_forgotten made ms w.table.sessions subscriptions n number s found k) acks w.table.subscriptions h in
@@ -183,15 +182,15 @@ beside_numbers w (LeavesAll code) made ms h = none_more made ms _ (record { risi
 beside_numbers w (Loses conn) made ms h = none_more made ms _ (gone_numbered made ms conn w.table h)
 beside_numbers w b made ms h = none_more made ms w.table h
 
-next_numbers : (w v u : World) (es fs : List Encounter) → Numbers w es v → Numbers v fs u → Numbers w (es ++ fs) u
+next_numbers : (w v u : Stage) (es fs : List Encounter) → Numbers w es v → Numbers v fs u → Numbers w (es ++ fs) u
 next_numbers w v u es fs p q made ms h =
     subst (λ (xs : List Made). IsMessaged made xs u.table) (append_assoc ms (flat_map made_at es) (flat_map made_at fs) ∙ ap (λ (xs : List Made). ms ++ xs) (sym (flat_map-append made_at es fs)))
     (q made (ms ++ flat_map made_at es) (p made ms h))
 
-one_numbers : (w : World) (n : ℕ) (asked : Call) (s : Subscription) → is_create asked ≡ false → subscription_at n w.table.subscriptions ≡ Some s →
-    Numbers w (Meets (scene_at w n asked s) ∷ []) (world_after n s (fired (scene_at w n asked s)) w.table)
+one_numbers : (w : Stage) (n : ℕ) (asked : Call) (s : Subscription) → is_create asked ≡ false → subscription_at n w.table.subscriptions ≡ Some s →
+    Numbers w (Meets (scene_at w n asked s) ∷ []) (stage_after n s (fired (scene_at w n asked s)) w.table)
 one_numbers w n asked s plain found made ms h =
-    subst (λ (xs : List Made). IsMessaged made (ms ++ xs) (world_after n s (fired (scene_at w n asked s)) w.table).table) (sym (append-nil (made_at (Meets (scene_at w n asked s))))) (one_messaged made ms w n asked s plain found h)
+    subst (λ (xs : List Made). IsMessaged made (ms ++ xs) (stage_after n s (fired (scene_at w n asked s)) w.table).table) (sym (append-nil (made_at (Meets (scene_at w n asked s))))) (one_messaged made ms w n asked s plain found h)
 
 pub follows_numbers : Follows Any Numbers
 follows_numbers = record {
@@ -211,11 +210,11 @@ IsRunNumbered ms r = IsMessaged r.subs.made ms r.subs.table
 created_run : (ms : List Made) (r : Ran) (clock : Moment) (session : ℕ) (settings : Settings) (enabled : Bool) → IsRunNumbered ms r → IsRunNumbered ms (ran_by r (created session settings enabled r.subs r.items clock))
 unfolding created refused created_one
 created_run ms r clock session settings enabled h =
-    let w = world_of r.subs r.items clock in
+    let w = stage_of r.subs r.items clock in
     either (λ s. IsRunNumbered ms (ran_by r s)) (is_full r.subs session) (refused session settings enabled r.subs w) (created_one session settings enabled r.subs w)
     (subst (IsMessaged r.subs.made ms) (sym (refused_one_same session settings enabled w)) h) (added_numbered r.subs.made ms session settings enabled w h)
 
-pub created_none : (b : Bool) (number session : ℕ) (settings : Settings) (enabled : Bool) (w : World) → flat_map made_at (Meets (made_scene b number session settings enabled w) ∷ []) ≡ []
+pub created_none : (b : Bool) (number session : ℕ) (settings : Settings) (enabled : Bool) (w : Stage) → flat_map made_at (Meets (made_scene b number session settings enabled w) ∷ []) ≡ []
 created_none true number session settings enabled w = refl
 created_none false number session settings enabled w = refl
 
@@ -226,7 +225,7 @@ plain_run ms r m plain h =
 
 pub one_run : (ms : List Made) (r : Ran) (m : Move) → IsRunNumbered ms r → IsRunNumbered (ms ++ moved_made r m) (moved r m)
 one_run ms r (Move.Create clock session settings enabled) h =
-    subst (λ (xs : List Made). IsRunNumbered (ms ++ xs) (moved r (Move.Create clock session settings enabled))) (sym (created_none (is_full r.subs session) (r.subs.made + 1) session settings enabled (world_of r.subs r.items clock)))
+    subst (λ (xs : List Made). IsRunNumbered (ms ++ xs) (moved r (Move.Create clock session settings enabled))) (sym (created_none (is_full r.subs session) (r.subs.made + 1) session settings enabled (stage_of r.subs r.items clock)))
     (none_more _ ms _ (created_run ms r clock session settings enabled h))
 one_run ms r m h = plain_run ms r m refl h
 
@@ -281,12 +280,12 @@ pub messages_kept : (config : Configuration) (moves : List Move) (number wanted 
     IsAmong (record { number = wanted; bytes = bytes }) (messages_for number (run_made (start config) moves))
 messages_kept config moves number wanted bytes given = by (subscription_at number (run config moves).subs.table.subscriptions) refl given
   where
-    by : (o : Option Subscription) → subscription_at number (run config moves).subs.table.subscriptions ≡ o → kept_by wanted o ≡ Some bytes → IsAmong (record { number = wanted; bytes = bytes }) (messages_for number (run_made (start config) moves))
+    by : (o : Option Subscription) → subscription_at number (run config moves).subs.table.subscriptions ≡ o → kept_bytes_by wanted o ≡ Some bytes → IsAmong (record { number = wanted; bytes = bytes }) (messages_for number (run_made (start config) moves))
     by None found e = absurd (cc)
     by (Some s) found e = bytes_among wanted s.kept (messages_for number (run_made (start config) moves)) bytes e (messages_live config moves number s found).kept
 
 -- Republish gives what is kept
-given_again : (session number wanted : ℕ) (bytes : List ℕ) (w : World) → (republished session number wanted w).answer ≡ Ok bytes → kept_at number wanted w.table ≡ Some bytes
+given_again : (session number wanted : ℕ) (bytes : List ℕ) (w : Stage) → (republished session number wanted w).answer ≡ Ok bytes → kept_at number wanted w.table ≡ Some bytes
 unfolding republished
 given_again session number wanted bytes w given = by (is_own w.table session number) (kept_at number wanted w.table) given
   where
@@ -297,7 +296,7 @@ given_again session number wanted bytes w given = by (is_own w.table session num
     by false o e = absurd (cc)
 
 pub messages_given_again : (config : Configuration) (moves : List Move) (clock : Moment) (session number wanted : ℕ) (bytes : List ℕ) → let r = run config moves in
-    (republished session number wanted (world_of r.subs r.items clock)).answer ≡ Ok bytes → IsAmong (record { number = wanted; bytes = bytes }) (messages_for number (run_made (start config) moves))
+    (republished session number wanted (stage_of r.subs r.items clock)).answer ≡ Ok bytes → IsAmong (record { number = wanted; bytes = bytes }) (messages_for number (run_made (start config) moves))
 messages_given_again config moves clock session number wanted bytes given =
     let r = run config moves in
-    messages_kept config moves number wanted bytes (given_again session number wanted bytes (world_of r.subs r.items clock) given)
+    messages_kept config moves number wanted bytes (given_again session number wanted bytes (stage_of r.subs r.items clock) given)

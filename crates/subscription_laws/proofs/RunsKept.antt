@@ -13,14 +13,14 @@ use Rattle.subscription_laws.specs.Calm.{ListsItsOwn, AreLists, IsCalm}
 use Rattle.ua_subscriptions.specs.Ending.{session_ended}
 use Rattle.ua_subscriptions.specs.Firing.{fired}
 use Rattle.ua_subscriptions.specs.Publishing.{acknowledged_all, with_results}
-use Rattle.subscription_laws.specs.Encounters.{Beside, CallsItems, ShowsItems, Acknowledges, Refuses, Leaves, LeavesAll, Loses, beside, Encounter, scene_at}
+use Rattle.subscription_laws.specs.Encounters.{Beside, CallsItems, ShowsItems, Acknowledges, Refuses, Leaves, LeavesAll, Loses, beside, Encounter}
 use Rattle.subscription_laws.specs.Runs.{ItemsCall, Move, Ran, start, ran_by, items_ran, moved, run, items_asked}
-use Rattle.ua_subscriptions.specs.SubscriptionCalls.{world_of, told, is_full, refused, created_one, created}
-use Rattle.ua_subscriptions.specs.Tables.{World, vars_by, part_of, subscription_at}
+use Rattle.ua_subscriptions.specs.SubscriptionCalls.{stage_of, without_answer, is_full, refused, created_one, created}
+use Rattle.ua_subscriptions.specs.Tables.{Stage, vars_by, part_of, subscription_at, stage_after, scene_at}
 use Rattle.ua_subscriptions.specs.Subscriptions.{vars_of}
 use Rattle.ua_subscriptions.proofs.Choosing.{either}
 use Rattle.subscription_laws.proofs.Folds.{fold_keeps}
-use Rattle.subscription_laws.proofs.Keeping.{IsKept, world_after, live_plain}
+use Rattle.subscription_laws.proofs.Keeping.{IsKept, live_plain}
 use Rattle.subscription_laws.proofs.KeepingItems.{shown_calm, served_apart, served_kept}
 use Rattle.subscription_laws.proofs.KeepingMade.{refused_one_kept, added_kept}
 use Rattle.subscription_laws.proofs.KeepingEnds.{refused_kept, ended_kept}
@@ -37,21 +37,21 @@ pub record IsRunKept (r : Ran) : Type 0 where
 
 -- ---- one call
 
-pub enter : (r : Ran) (clock : Moment) → IsRunKept r → IsKept None r.subs.made r.rows (world_of r.subs r.items clock)
+pub enter : (r : Ran) (clock : Moment) → IsRunKept r → IsKept None r.subs.made r.rows (stage_of r.subs r.items clock)
 enter r clock k = record {
   calm = subst (λ (rows : List Fired). IsCalm rows r.subs.table r.items) (sym (append-nil r.rows)) k.calm;
   own = λ j other. k.own j;
   within = k.within;
 }
 
-leave : (r : Ran) (w : World) → IsKept None r.subs.made r.rows w → IsRunKept (ran_by r (told r.subs w))
+leave : (r : Ran) (w : Stage) → IsKept None r.subs.made r.rows w → IsRunKept (ran_by r (without_answer r.subs w))
 leave r w k = record { calm = k.calm; own = λ j. k.own j (λ e. absurd (cc)); within = k.within }
 
 -- CreateSubscription
 created_run : (r : Ran) (clock : Moment) (session : ℕ) (settings : Settings) (enabled : Bool) → IsRunKept r → IsRunKept (ran_by r (created session settings enabled r.subs r.items clock))
 unfolding created refused created_one
 created_run r clock session settings enabled k =
-    let w = world_of r.subs r.items clock in
+    let w = stage_of r.subs r.items clock in
     let none = refused_one_kept r.subs.made r.rows session settings enabled w (enter r clock k) in
     let one = added_kept r.subs.made r.rows session (r.subs.made + 1) settings enabled w (omega arith) (enter r clock k) in
     either (λ s. IsRunKept (ran_by r s)) (is_full r.subs session) (refused session settings enabled r.subs w) (created_one session settings enabled r.subs w)
@@ -63,7 +63,7 @@ items_run : (r : Ran) (clock : Moment) (number : ℕ) (asked : Option ItemsCall)
 items_run r clock number asked s found k =
     let after = items_asked r.items number asked in
     leave r _
-    (served_kept r.subs.made r.rows (world_of r.subs after clock) r.items number s (subst (λ (rows : List Fired). IsCalm rows r.subs.table r.items) (sym (append-nil r.rows)) k.calm)
+    (served_kept r.subs.made r.rows (stage_of r.subs after clock) r.items number s (subst (λ (rows : List Fired). IsCalm rows r.subs.table r.items) (sym (append-nil r.rows)) k.calm)
     (λ j other. k.own j) k.within (served_apart number asked r.items) found)
 
 items_found : (r : Ran) (clock : Moment) (number : ℕ) (asked : Option ItemsCall) → IsRunKept r → (o : Option Subscription) → subscription_at number r.subs.table.subscriptions ≡ o →
@@ -79,7 +79,7 @@ is_quiet (call.Items before) = false
 is_quiet (call.SessionEnd deleting) = false
 is_quiet asked = true
 
-abbrev Quiet : Option ℕ → Call → World → List ℕ → Type 0
+abbrev Quiet : Option ℕ → Call → Stage → List ℕ → Type 0
 Quiet whose asked w ns = (is_quiet asked ≡ true) × CanAnswer whose asked w ns
 
 abbrev IsQuiet : Beside → Type 0
@@ -88,22 +88,22 @@ IsQuiet (Leaves session) = ⊥
 IsQuiet b = Unit {0}
 
 module _ (made : ℕ) (past : List Fired) where
-  one_quiet : (whose : Option ℕ) (asked : Call) (w : World) (n : ℕ) (ns : List ℕ) (s : Subscription) → is_quiet asked ≡ true → CanAnswer whose asked w (n ∷ ns) → subscription_at n w.table.subscriptions ≡ Some s →
-      IsKept None made past w → IsKept None made past (world_after n s (fired (scene_at w n asked s)) w.table)
+  one_quiet : (whose : Option ℕ) (asked : Call) (w : Stage) (n : ℕ) (ns : List ℕ) (s : Subscription) → is_quiet asked ≡ true → CanAnswer whose asked w (n ∷ ns) → subscription_at n w.table.subscriptions ≡ Some s →
+      IsKept None made past w → IsKept None made past (stage_after n s (fired (scene_at w n asked s)) w.table)
   one_quiet whose (call.Create full settings enabled) w n ns s quiet can found k = absurd (cc)
   one_quiet whose (call.Items before) w n ns s quiet can found k = absurd (cc)
   one_quiet whose (call.SessionEnd deleting) w n ns s quiet can found k = absurd (cc)
   one_quiet whose call.Publish w n ns s quiet can found k = live_publish made past w n ns s (can refl).1 found k
   one_quiet whose asked w n ns s quiet can found k = live_plain None made past w n asked s refl (inl refl) found k
 
-  none_left : (code : Status) (w : World) → w.table.subscriptions ≡ [] → IsKept None made past w → IsKept None made past (beside w (LeavesAll code))
+  none_left : (code : Status) (w : Stage) → w.table.subscriptions ≡ [] → IsKept None made past w → IsKept None made past (beside w (LeavesAll code))
   none_left code w none k = record {
     calm = fewer_calm (past ++ w.round.rows) w.table w.items [] tt (λ m s j found own. let clash : None ≡ Some s = sym (ap (subscription_at m) none) ∙ found in absurd (cc)) (λ j any. absurd (cc)) k.calm;
     own = λ j other m listed. absurd (cc);
     within = record { within = λ m j listed. absurd (cc); rising = λ j. tt };
   }
 
-  beside_quiet : (w : World) (b : Beside) → Fits w b → IsQuiet b → IsKept None made past w → IsKept None made past (beside w b)
+  beside_quiet : (w : Stage) (b : Beside) → Fits w b → IsQuiet b → IsKept None made past w → IsKept None made past (beside w b)
   beside_quiet w (CallsItems number asked) fits quiet k = absurd quiet
   beside_quiet w (ShowsItems changed) fits quiet k = record { calm = shown_calm (past ++ w.round.rows) w.table w.items changed k.calm; own = k.own; within = k.within }
   beside_quiet w (Acknowledges session acks) fits quiet k = ready_kept session made past acks w k
@@ -113,7 +113,7 @@ module _ (made : ℕ) (past : List Fired) where
   beside_quiet w (Loses conn) fits quiet k = parts_kept None made past w _ (conn_fewer conn w.table.sessions) k
   beside_quiet w b fits quiet k = record { calm = k.calm; own = k.own; within = k.within }
 
-  abbrev StaysKept : World → List Encounter → World → Type 0
+  abbrev StaysKept : Stage → List Encounter → Stage → Type 0
   StaysKept w es v = AllByRecursion (OnBeside IsQuiet) es → IsKept None made past w → IsKept None made past v
 
   follows_kept : Follows Quiet StaysKept
@@ -142,9 +142,9 @@ one_run r (Move.Delete clock session numbers) k = quiet_run r (Move.Delete clock
 one_run r (Move.Publish clock session asked acks) k =
     let request = with_results asked (acknowledged_all session r.subs.table.subscriptions acks).results in
     quiet_run r (Move.Publish clock session asked acks) refl (tt, λ results. ((λ note. tt), tt, tt))
-    (λ none. (refl, λ is. (refl, publish_begins session r.subs.made r.rows request acks (world_of r.subs r.items clock) (enter r clock k)))) k
+    (λ none. (refl, λ is. (refl, publish_begins session r.subs.made r.rows request acks (stage_of r.subs r.items clock) (enter r clock k)))) k
 one_run r (Move.EndSession clock session deleting) k =
-    leave r (session_ended session deleting (world_of r.subs r.items clock)) (ended_kept session r.subs.made r.rows deleting (world_of r.subs r.items clock) (enter r clock k))
+    leave r (session_ended session deleting (stage_of r.subs r.items clock)) (ended_kept session r.subs.made r.rows deleting (stage_of r.subs r.items clock) (enter r clock k))
 one_run r (Move.Shutdown clock) k = quiet_run r (Move.Shutdown clock) refl tt (refl, λ is. absurd (cc)) k
 one_run r (Move.Gone conn) k = quiet_run r (Move.Gone conn) refl tt tt k
 one_run r (Move.Items clock number asked) k = items_found r clock number asked k (subscription_at number r.subs.table.subscriptions) refl

@@ -2,7 +2,7 @@
 use Rattle.std.proofs.Common.{◌≡◌, ◌≢◌, ◌⊎◌, inl, inr, ℕ, Bool, true, false, ◌&&◌, cond, List, [], ◌∷◌, ◌++◌, Option, Some, None, unwrap_or, refl, sym, ap, ◌∙◌, subst}
 use Rattle.std.proofs.lemmas.Bool.{false≢true, cond-true, cond-false, cond_both}
 use Rattle.std.specs.BTreeMap.{is_at}
-use Rattle.std.specs.Map.{lookup, set_value, remove_entry}
+use Rattle.std.specs.Map.{lookup, set_value}
 use Rattle.std.specs.Option.{is_some}
 use Rattle.std.specs.Ordering.{nat_cmp}
 use Rattle.std.specs.Set.{remove_key}
@@ -17,7 +17,7 @@ use Rattle.subscription_laws.specs.Histories.{counts_at, life_at, IsLawful, AreL
 use Rattle.ua_subscriptions.specs.Ranks.{is_waiting}
 use Rattle.subscription_laws.specs.Standings.{Counts, standing}
 use Rattle.ua_subscriptions.specs.Subscriptions.{no_part, is_any, vars_of}
-use Rattle.ua_subscriptions.specs.Tables.{TableState, subscription_at, part_at, part_of, set_part}
+use Rattle.ua_subscriptions.specs.Tables.{TableState, subscription_at, part_at, part_of, set_part, put_back, table_after}
 use Rattle.ua_subscriptions.proofs.Choosing.{either}
 use Rattle.subscription_laws.proofs.Availability.{reached_rise, stays_available}
 use Rattle.subscription_laws.proofs.Entries.{some_same, same_or_not, set_here, set_other, gone_here, gone_other, rising_set, rising_gone, listed_stays, listed_gone, numbers_gone_here, numbers_rising_gone}
@@ -54,10 +54,6 @@ still s n part part2 items items2 counts counts2 same up fewer h = subst (λ (k 
     by (inr e) = e
 
 -- ---- look-ups
-
--- the subscriptions after one is changed, and gone where it is closed
-abbrev pub put_back : ℕ → Subscription → List (ℕ × Subscription) → List (ℕ × Subscription)
-put_back n d subscriptions = cond (is_closed d) (remove_entry (is_at (nat_cmp n)) (set_value (is_at (nat_cmp n)) subscriptions d)) (set_value (is_at (nat_cmp n)) subscriptions d)
 
 pub back_other : (n m : ℕ) (d : Subscription) (subscriptions : List (ℕ × Subscription)) → m ≢ n → subscription_at m (put_back n d subscriptions) ≡ subscription_at m subscriptions
 back_other n m d subscriptions other =
@@ -161,9 +157,6 @@ pub record IsStep (rows : List Fired) (t : TableState) (items : ItemsState) (n :
   pub lifetime : is_closed d ≡ false → life_at n (rows ++ f ∷ []) ≡ d.lifetime_count
   pub others : (is_any (part_of s.session t.sessions).requests ≡ false → is_any part.requests ≡ false) ⊎ NoneWaits t s.session
   pub lawful : IsLawful rows f
-
-abbrev pub table_after : ℕ → Subscription → Subscription → SessionSubscriptions → TableState → TableState
-table_after n s d part t = record { subscriptions = put_back n d t.subscriptions; sessions = set_part s.session t.sessions part }
 
 module _ (rows : List Fired) (t : TableState) (items : ItemsState) (n : ℕ) (s : Subscription) (f : Fired) (d : Subscription) (part : SessionSubscriptions) (after : ItemsState) (h : IsCalm rows t items) (step : IsStep rows t items n s f d part after) where
   own_session : (k : ℕ) → d.session ≡ Some k → s.session ≡ Some k

@@ -17,12 +17,12 @@ use Rattle.ua_subscriptions.specs.Ending.{all_requests, shut_down}
 use Rattle.ua_subscriptions.specs.Firing.{fired}
 use Rattle.ua_subscriptions.specs.Named as named
 use Rattle.ua_subscriptions.specs.Scenes.{Scene, row_done}
-use Rattle.ua_subscriptions.specs.SubscriptionCalls.{world_of}
+use Rattle.ua_subscriptions.specs.SubscriptionCalls.{stage_of}
 use Rattle.ua_subscriptions.specs.Subscriptions.{no_part}
-use Rattle.ua_subscriptions.specs.Tables.{TableState, World, no_table, with_call, without_closed, met_found, met, all_met, part_at, part_of, set_part, subscription_at}
+use Rattle.ua_subscriptions.specs.Tables.{TableState, Stage, no_table, met, all_met, part_at, part_of, set_part, subscription_at, scene_at, met_by}
 use Rattle.ua_subscriptions.proofs.Shutdowns.{nothing_left, first_found, first_gone}
 use Rattle.subscription_laws.specs.Concern.{subscription_of, concerns_at, concerned}
-use Rattle.subscription_laws.specs.Encounters.{Beside, Acknowledges, beside, Encounter, Meets, scene_at, meets_by, meets, all_meet}
+use Rattle.subscription_laws.specs.Encounters.{Beside, Acknowledges, beside, Encounter, Meets, meets_by, meets, all_meet}
 use Rattle.subscription_laws.specs.Runs.{Move, Ran, moved, run}
 use Rattle.subscription_laws.proofs.Acknowledgements.{all_acknowledged}
 use Rattle.subscription_laws.proofs.Walks.{makes, left_is, Follows, Any, any_begins, walked_on}
@@ -38,7 +38,7 @@ pub record Waiting : Type 0 where
 abbrev those : List Reply → Moment → List PublishCall → Waiting
 those replies clock calls = record { replies = replies; clock = clock; calls = calls }
 
-abbrev waiting : World → Waiting
+abbrev waiting : Stage → Waiting
 waiting w = those w.round.replies w.round.clock (all_requests (values_of w.table.sessions))
 
 -- a session's part with the requests that it had
@@ -67,7 +67,7 @@ pub record StaysWaiting (before after : Scene) : Type 0 where
   pub clock : after.round.clock ≡ before.round.clock
   pub requests : after.part.requests ≡ before.part.requests
 
-row_waits : (w : World) (n : ℕ) (s : Subscription) → StaysWaiting (scene_at w n call.Shutdown s) (fired (scene_at w n call.Shutdown s))
+row_waits : (w : Stage) (n : ℕ) (s : Subscription) → StaysWaiting (scene_at w n call.Shutdown s) (fired (scene_at w n call.Shutdown s))
 unfolding fired row_done
 row_waits w n s = record { replies = refl; clock = refl; requests = refl }
 
@@ -75,17 +75,17 @@ same_waiting : (a b : Waiting) → a.replies ≡ b.replies → a.clock ≡ b.clo
 same_waiting a b p q r =
     ap (λ (replies : List Reply). those replies a.clock a.calls) p ∙ ap (λ (clock : Moment). those b.replies clock a.calls) q ∙ ap (λ (calls : List PublishCall). those b.replies b.clock calls) r
 
-one_waits : (w : World) (n : ℕ) → waiting (met w n call.Shutdown) ≡ waiting w
+one_waits : (w : Stage) (n : ℕ) → waiting (met w n call.Shutdown) ≡ waiting w
 unfolding met
 one_waits w n = by (subscription_at n w.table.subscriptions)
   where
-    by : (o : Option Subscription) → waiting (without_closed n (met_found (with_call w.round n call.Shutdown) w.table.subscriptions w.table.sessions w.items o)) ≡ waiting w
+    by : (o : Option Subscription) → waiting (met_by w n call.Shutdown o) ≡ waiting w
     by None = refl
     by (Some s) =
         let stays = row_waits w n s in
         same_waiting _ _ stays.replies stays.clock (same_set s.session (fired (scene_at w n call.Shutdown s)).part w.table.sessions stays.requests)
 
-all_wait : (ns : List ℕ) (w : World) → waiting (all_met call.Shutdown w ns) ≡ waiting w
+all_wait : (ns : List ℕ) (w : Stage) → waiting (all_met call.Shutdown w ns) ≡ waiting w
 all_wait [] w = refl
 all_wait (n ∷ ns) w = all_wait ns (met w n call.Shutdown) ∙ one_waits w n
 
@@ -94,27 +94,27 @@ all_wait (n ∷ ns) w = all_wait ns (met w n call.Shutdown) ∙ one_waits w n
 refused_by : Waiting → List Reply
 refused_by x = x.replies ++ map (refused_of x.clock status.BAD_SHUTDOWN) x.calls
 
-all_refused : (w : World) → (shut_down w).round.replies ≡ w.round.replies ++ map (refused_of w.round.clock status.BAD_SHUTDOWN) (all_requests (values_of w.table.sessions))
+all_refused : (w : Stage) → (shut_down w).round.replies ≡ w.round.replies ++ map (refused_of w.round.clock status.BAD_SHUTDOWN) (all_requests (values_of w.table.sessions))
 unfolding shut_down refused_by
 all_refused w = ap refused_by (all_wait (keys_of w.table.subscriptions) w)
 
 pub all_are_answered : (config : Configuration) (moves : List Move) (clock : Moment) → let r = run config moves in
     (moved r (Move.Shutdown clock)).replies ≡ r.replies ++ map (refused_of clock status.BAD_SHUTDOWN) (all_requests (values_of r.subs.table.sessions))
-all_are_answered config moves clock = let r = run config moves in ap (λ (rs : List Reply). r.replies ++ rs) (all_refused (world_of r.subs r.items clock))
+all_are_answered config moves clock = let r = run config moves in ap (λ (rs : List Reply). r.replies ++ rs) (all_refused (stage_of r.subs r.items clock))
 
 -- ---- and nothing is left
 
 pub none_is_left : (config : Configuration) (moves : List Move) (clock : Moment) → (moved (run config moves) (Move.Shutdown clock)).subs.table ≡ no_table
-none_is_left config moves clock = let r = run config moves in nothing_left (world_of r.subs r.items clock)
+none_is_left config moves clock = let r = run config moves in nothing_left (stage_of r.subs r.items clock)
 
 -- ---- each subscription that lives is concerned
 
-first_is : (w : World) (n : ℕ) (s : Subscription) (es : List (ℕ × Subscription)) → w.table.subscriptions ≡ (n, s) ∷ es → meets w n call.Shutdown ≡ Meets (scene_at w n call.Shutdown s) ∷ []
+first_is : (w : Stage) (n : ℕ) (s : Subscription) (es : List (ℕ × Subscription)) → w.table.subscriptions ≡ (n, s) ∷ es → meets w n call.Shutdown ≡ Meets (scene_at w n call.Shutdown s) ∷ []
 first_is w n s es is =
     ap (λ (xs : List (ℕ × Subscription)). meets_by w n call.Shutdown (subscription_at n xs)) is ∙ ap (λ (o : Option Subscription). meets_by w n call.Shutdown o) (first_found n s es)
 
 -- whatever is done behind
-each_is : (es : List (ℕ × Subscription)) (w : World) (behind : List Encounter) → flat_map concerns_at behind ≡ [] → w.table.subscriptions ≡ es →
+each_is : (es : List (ℕ × Subscription)) (w : Stage) (behind : List Encounter) → flat_map concerns_at behind ≡ [] → w.table.subscriptions ≡ es →
     map subscription_of (flat_map concerns_at (all_meet None call.Shutdown w (keys_of es) ++ behind)) ≡ keys_of es
 each_is [] w behind none is = ap (map subscription_of) none
 each_is (e ∷ es) w behind none is =
@@ -123,14 +123,14 @@ each_is (e ∷ es) w behind none is =
 
 pub all_are_concerned : (config : Configuration) (moves : List Move) (clock : Moment) → let r = run config moves in
     map subscription_of (concerned r (Move.Shutdown clock)) ≡ keys_of r.subs.table.subscriptions
-all_are_concerned config moves clock = let r = run config moves in each_is r.subs.table.subscriptions (world_of r.subs r.items clock) _ refl refl
+all_are_concerned config moves clock = let r = run config moves in each_is r.subs.table.subscriptions (stage_of r.subs r.items clock) _ refl refl
 
 -- ---- and none comes back, but by a call that makes one
 
-abbrev StaysNone : World → List Encounter → World → Type 0
+abbrev StaysNone : Stage → List Encounter → Stage → Type 0
 StaysNone w es v = w.table.subscriptions ≡ [] → v.table.subscriptions ≡ []
 
-beside_none : (w : World) (b : Beside) → w.table.subscriptions ≡ [] → (beside w b).table.subscriptions ≡ []
+beside_none : (w : Stage) (b : Beside) → w.table.subscriptions ≡ [] → (beside w b).table.subscriptions ≡ []
 unfolding named.all_refused
 beside_none w (Acknowledges session acks) none =
     all_acknowledged session (λ (subscriptions : List (ℕ × Subscription)). subscriptions ≡ [])

@@ -18,7 +18,6 @@ use Rattle.ua_state_table.specs.StateTable.{actions_of}
 use Rattle.ua_state_table.specs.declared.action.Action.{Action}
 use Rattle.ua_state_table.specs.declared.action.Action.TheVariants.{Initialise, Enqueue, Dequeue, SendNotifications, SendKeepAlive, DeleteItems}
 use Rattle.ua_state_table.specs.declared.row.RowId.{RowId}
-use Rattle.ua_monitored_items.specs.Items.{ItemsState}
 use Rattle.ua_subscriptions.specs.declared.call.Call.{Call}
 use Rattle.ua_subscriptions.specs.declared.call.Call.TheVariants as call
 use Rattle.ua_subscriptions.specs.declared.messages.KeptMessage.{KeptMessage}
@@ -36,16 +35,15 @@ use Rattle.ua_subscriptions.specs.Named.{all_refused, without_requests}
 use Rattle.ua_subscriptions.specs.Publishing.{without_at, forgotten, without_kept, part_without_note}
 use Rattle.ua_subscriptions.specs.Scenes.{Scene, scene, Queueing, enqueued, enqueued_by, kept_with, message_made, Noting, noting, note_sent, with_asked, Sending, sending, rest_sent, notes_sent, done, all_done, row_done}
 use Rattle.ua_subscriptions.specs.Settings.{bounds_of}
-use Rattle.ua_subscriptions.specs.SubscriptionCalls.{SubscriptionsState, world_of, is_full}
+use Rattle.ua_subscriptions.specs.SubscriptionCalls.{SubscriptionsState, stage_of, is_full}
 use Rattle.ua_subscriptions.specs.Subscriptions.{unborn, no_part}
-use Rattle.ua_subscriptions.specs.Tables.{TableState, World, OneMet, with_call, met_found, part_at, part_of, set_part, subscription_at}
+use Rattle.ua_subscriptions.specs.Tables.{TableState, Stage, with_call, part_at, part_of, set_part, subscription_at, stage_after, scene_at}
 use Rattle.ua_subscriptions.proofs.Choosing.{either}
 use Rattle.ua_subscriptions.proofs.MapEntries.{entries_removed, entries_if_removed, entries_set, entries_found, entries_inserted}
 use Rattle.subscription_laws.specs.Runs.{Move, Ran, start, moved, run}
-use Rattle.subscription_laws.specs.Encounters.{Beside, Acknowledges, Refuses, Leaves, LeavesAll, Loses, beside, Encounter, scene_at}
+use Rattle.subscription_laws.specs.Encounters.{Beside, Acknowledges, Refuses, Leaves, LeavesAll, Loses, beside, Encounter}
 use Rattle.subscription_laws.proofs.Acknowledgements.{all_acknowledged}
 use Rattle.subscription_laws.proofs.Folds.{fold_keeps}
-use Rattle.subscription_laws.proofs.Keeping.{world_after}
 use Rattle.subscription_laws.proofs.Owners.{Frame, note_frame, done_frame}
 use Rattle.subscription_laws.proofs.Room.{room, length_inserted, length_removed, length_filtered}
 use Rattle.subscription_laws.proofs.Walks.{left_is, Follows, FollowsMaking, Any, any_begins, walked}
@@ -194,7 +192,7 @@ module _ (b : Bounds) (some : 1 ≤ b.publish_queue) where
     pub subscriptions : AllByRecursion EachKept t.subscriptions
     pub few : length t.subscriptions ≤ b.subscriptions_in_all
 
-  pub record WorldBounded (w : World) : Type 0 where
+  pub record StageBounded (w : Stage) : Type 0 where
     pub bounds : w.round.bounds ≡ b
     pub table : TableBounded w.table
 
@@ -219,28 +217,9 @@ module _ (b : Bounds) (some : 1 ≤ b.publish_queue) where
   pub kept_found : (number : ℕ) (subscriptions : List (ℕ × Subscription)) → AllByRecursion EachKept subscriptions → length (unwrap_or (subscription_at number subscriptions) (unborn 0)).kept ≤ b.kept
   kept_found number subscriptions h = entries_found EachKept number (unborn 0) subscriptions (omega arith) h
 
-  record OneBounded (m : OneMet) : Type 0 where
-    bounds : m.round.bounds ≡ b
-    sessions : AllByRecursion EachPart m.sessions
-    subscriptions : AllByRecursion EachKept m.subscriptions
-    few : length m.subscriptions ≤ b.subscriptions_in_all
-
-  found_bounded : (round : Round) (t : TableState) (items : ItemsState) (o : Option Subscription) → length (unwrap_or o (unborn 0)).kept ≤ b.kept → round.bounds ≡ b → TableBounded t → OneBounded (met_found round t.subscriptions t.sessions items o)
-  found_bounded round t items None k h g = record { bounds = h; sessions = g.sessions; subscriptions = g.subscriptions; few = g.few }
-  found_bounded round t items (Some s) k h g =
-      let c = scene round s (part_of s.session t.sessions) items in
-      let p = part_of_bounded s.session t.sessions g.sessions in
-      let after = fired_bounded c (record { bounds = h; requests = p.requests; numbers = p.numbers; kept = k }) in
-      record {
-        bounds = after.bounds;
-        sessions = set_part_bounded s.session (fired c).part t.sessions (record { requests = after.requests; numbers = after.numbers }) g.sessions;
-        subscriptions = entries_set EachKept round.own (fired c).subscription t.subscriptions after.kept g.subscriptions;
-        few = let same = length-set_value (is_at (nat_cmp round.own)) t.subscriptions (fired c).subscription in let before = g.few in omega (arith, same, before);
-      }
-
   -- ---- what a call does
 
-  all_refused_bounded : (session : ℕ) (code : Status) (w : World) → WorldBounded w → WorldBounded (all_refused session code w)
+  all_refused_bounded : (session : ℕ) (code : Status) (w : Stage) → StageBounded w → StageBounded (all_refused session code w)
   unfolding all_refused
   all_refused_bounded session code w h =
       let p = part_bounded session w.table.sessions h.table.sessions in
@@ -253,7 +232,7 @@ module _ (b : Bounds) (some : 1 ≤ b.publish_queue) where
         };
       }
 
-  refused_one_bounded : (session : ℕ) (asked : Settings) (enabled : Bool) (w : World) → WorldBounded w → WorldBounded (refused_one session asked enabled w)
+  refused_one_bounded : (session : ℕ) (asked : Settings) (enabled : Bool) (w : Stage) → StageBounded w → StageBounded (refused_one session asked enabled w)
   unfolding refused_one
   refused_one_bounded session asked enabled w h =
       let c = scene (with_call w.round 0 (call.Create true asked enabled)) (unborn session) no_part w.items in
@@ -261,7 +240,7 @@ module _ (b : Bounds) (some : 1 ≤ b.publish_queue) where
       record { bounds = after.bounds; table = h.table }
 
   -- one more subscription, where the session and the server have fewer than may be: the row lists none
-  added_bounded : (session number : ℕ) (asked : Settings) (enabled : Bool) (w : World) → let part : SessionSubscriptions = part_at session w.table.sessions in length part.numbers + 1 ≤ b.subscriptions → length w.table.subscriptions + 1 ≤ b.subscriptions_in_all → WorldBounded w → WorldBounded (added session number asked enabled w)
+  added_bounded : (session number : ℕ) (asked : Settings) (enabled : Bool) (w : Stage) → let part : SessionSubscriptions = part_at session w.table.sessions in length part.numbers + 1 ≤ b.subscriptions → length w.table.subscriptions + 1 ≤ b.subscriptions_in_all → StageBounded w → StageBounded (added session number asked enabled w)
   unfolding added fired row_done
   added_bounded session number asked enabled w room room_in_all h =
       let part : SessionSubscriptions = part_at session w.table.sessions in
@@ -313,10 +292,10 @@ module _ (b : Bounds) (some : 1 ≤ b.publish_queue) where
   room_in_all : (s : SubscriptionsState) (session : ℕ) → is_full s session ≡ false → length s.table.subscriptions + 1 ≤ s.bounds.subscriptions_in_all
   room_in_all s session e = room s.bounds.subscriptions_in_all (length s.table.subscriptions) (or_parts _ _ (or_parts _ _ e).1).0
 
-  abbrev StaysBounded : World → List Encounter → World → Type 0
-  StaysBounded w es v = WorldBounded w → WorldBounded v
+  abbrev StaysBounded : Stage → List Encounter → Stage → Type 0
+  StaysBounded w es v = StageBounded w → StageBounded v
 
-  bounded_beside : (w : World) (x : Beside) → WorldBounded w → WorldBounded (beside w x)
+  bounded_beside : (w : Stage) (x : Beside) → StageBounded w → StageBounded (beside w x)
   bounded_beside w (Acknowledges session acks) h =
       let p = part_bounded session w.table.sessions h.table.sessions in
       let those = all_acknowledged session AreFew (λ subscriptions n number s found its k. forgotten_few subscriptions n number s found k) acks w.table.subscriptions (record { kept = h.table.subscriptions; few = h.table.few }) in
@@ -338,16 +317,20 @@ module _ (b : Bounds) (some : 1 ≤ b.publish_queue) where
   fewer true test subscriptions h = let less = length_removed test subscriptions in omega (arith, less, h)
   fewer false test subscriptions h = h
 
-  one_met_bounded : (w : World) (n : ℕ) (asked : Call) (s : Subscription) → subscription_at n w.table.subscriptions ≡ Some s → WorldBounded w → WorldBounded (world_after n s (fired (scene_at w n asked s)) w.table)
-  one_met_bounded w n asked s found h =
+  met_bounded : (w : Stage) (n : ℕ) (asked : Call) (s : Subscription) → subscription_at n w.table.subscriptions ≡ Some s → StageBounded w → StageBounded (stage_after n s (fired (scene_at w n asked s)) w.table)
+  met_bounded w n asked s found h =
       let k : length s.kept ≤ b.kept = subst (λ (o : Option Subscription). length (unwrap_or o (unborn 0)).kept ≤ b.kept) found (kept_found n w.table.subscriptions h.table.subscriptions) in
-      let m = found_bounded (with_call w.round n asked) w.table w.items (Some s) k h.bounds h.table in
+      let c = scene_at w n asked s in
+      let p = part_of_bounded s.session w.table.sessions h.table.sessions in
+      let after = fired_bounded c (record { bounds = h.bounds; requests = p.requests; numbers = p.numbers; kept = k }) in
+      let same = length-set_value (is_at (nat_cmp n)) w.table.subscriptions (fired c).subscription in
+      let before = h.table.few in
       record {
-        bounds = m.bounds;
+        bounds = after.bounds;
         table = record {
-          sessions = m.sessions;
-          subscriptions = entries_if_removed EachKept (is_closed (fired (scene_at w n asked s)).subscription) (is_at (nat_cmp n)) _ m.subscriptions;
-          few = fewer (is_closed (fired (scene_at w n asked s)).subscription) (is_at (nat_cmp n)) _ m.few;
+          sessions = set_part_bounded s.session (fired c).part w.table.sessions (record { requests = after.requests; numbers = after.numbers }) h.table.sessions;
+          subscriptions = entries_if_removed EachKept (is_closed (fired c).subscription) (is_at (nat_cmp n)) _ (entries_set EachKept n (fired c).subscription w.table.subscriptions after.kept h.table.subscriptions);
+          few = fewer (is_closed (fired c).subscription) (is_at (nat_cmp n)) _ (omega (arith, same, before));
         };
       }
 
@@ -358,14 +341,14 @@ module _ (b : Bounds) (some : 1 ≤ b.publish_queue) where
     next = λ w v u es fs p q h. q (p h);
     passes = λ w n asked h. record { bounds = h.bounds; table = record { sessions = h.table.sessions; subscriptions = h.table.subscriptions; few = h.table.few } };
     aside = λ w b fits h. bounded_beside w b h;
-    one = λ whose asked w n ns s plain given meant found h. one_met_bounded w n asked s found h;
+    one = λ whose asked w n ns s plain given meant found h. met_bounded w n asked s found h;
   }
 
   making_bounded : FollowsMaking StaysBounded
   making_bounded = record {
     refuses = λ session number settings enabled w h. refused_one_bounded session settings enabled w h;
     adds = λ r clock session settings enabled free h.
-        added_bounded session (r.subs.made + 1) settings enabled (world_of r.subs r.items clock)
+        added_bounded session (r.subs.made + 1) settings enabled (stage_of r.subs r.items clock)
         (subst (λ (x : Bounds). length (part_at session r.subs.table.sessions).numbers + 1 ≤ x.subscriptions) h.bounds (room_left r.subs session free))
         (subst (λ (x : Bounds). length r.subs.table.subscriptions + 1 ≤ x.subscriptions_in_all) h.bounds (room_in_all r.subs session free)) h;
   }

@@ -23,20 +23,19 @@ use Rattle.ua_subscriptions.specs.Firing.{row_of, fired}
 use Rattle.ua_subscriptions.specs.Making.{refused_one, added}
 use Rattle.ua_subscriptions.specs.Messages.{timeout_message}
 use Rattle.ua_subscriptions.specs.Named.{all_refused}
-use Rattle.ua_subscriptions.specs.Publishing.{acknowledged_all, note_of, without_note, part_without_note, answered_by, with_results, published, ready}
+use Rattle.ua_subscriptions.specs.Publishing.{acknowledged_all, note_of, without_note, part_without_note, noted_or_answered, with_results, published, ready}
 use Rattle.ua_subscriptions.specs.Queues.{first_of}
 use Rattle.ua_subscriptions.specs.Scenes.{row_done}
-use Rattle.ua_subscriptions.specs.SubscriptionCalls.{world_of, is_full, refused, created_one, created}
+use Rattle.ua_subscriptions.specs.SubscriptionCalls.{stage_of, is_full, refused, created_one, created}
 use Rattle.ua_subscriptions.specs.Subscriptions.{no_part}
-use Rattle.ua_subscriptions.specs.Tables.{World, part_at, subscription_at}
+use Rattle.ua_subscriptions.specs.Tables.{Stage, part_at, subscription_at, stage_after, scene_at}
 use Rattle.subscription_laws.specs.Answering.{AreBrought}
-use Rattle.subscription_laws.specs.Encounters.{Beside, TellsNote, TellsNone, Refuses, LeavesAll, beside, Encounter, Meets, Does, scene_at, made_scene}
+use Rattle.subscription_laws.specs.Encounters.{Beside, TellsNote, TellsNone, Refuses, LeavesAll, beside, Encounter, Meets, Does, made_scene}
 use Rattle.subscription_laws.specs.Messaging.{Made, made_at, moved_made, run_made}
 use Rattle.subscription_laws.specs.Runs.{Move, Ran, start, moved, run}
 use Rattle.subscription_laws.specs.Tellings.{Telling, Told, Notifications, KeepAlive, TimedOut, Refused, answer_by, answer_of, message_in, messages_in, refused_told, told_at, moved_told, run_told, AreInSequence}
 use Rattle.subscription_laws.proofs.ChosenRows.{is_create}
 use Rattle.subscription_laws.proofs.Entries.{listed_first, some_same, set_here}
-use Rattle.subscription_laws.proofs.Keeping.{world_after}
 use Rattle.subscription_laws.proofs.KeepingPublish.{Answerable, CanAnswer, rest_can, publish_begins}
 use Rattle.subscription_laws.proofs.MessageNotes.{IsMessaged, IsNote, AllNotes}
 use Rattle.subscription_laws.proofs.RowRequests.{IsGiven, plain_given, asked_given, calm_given}
@@ -70,7 +69,7 @@ vain_tells ms before clock code calls =
     subst (Tells ms before (before ++ map (refused_of clock code) calls) []) (sym (append-nil (map (refused_told clock code) calls)))
     (record { so = ap (λ (rs : List Reply). before ++ rs) (refused_answers clock code calls); brings = refused_brings clock code calls; sequence = refused_sequence clock code calls ms })
 
-beside_tells : (made : ℕ) (ms : List Made) (w : World) (b : Beside) → Fits w b → IsMessaged made ms w.table → Tells ms w.round.replies (beside w b).round.replies [] (flat_map told_at (Does w b ∷ []))
+beside_tells : (made : ℕ) (ms : List Made) (w : Stage) (b : Beside) → Fits w b → IsMessaged made ms w.table → Tells ms w.round.replies (beside w b).round.replies [] (flat_map told_at (Does w b ∷ []))
 unfolding all_refused
 beside_tells made ms w (TellsNote session asked note) fits h =
     record { so = refl; brings = refl; sequence = (((first_note made ms w.table.subscriptions (part_at session w.table.sessions).notes note fits (h.notes session)).number, refl), tt) }
@@ -81,11 +80,11 @@ beside_tells made ms w b fits h = tells_none ms w.round.replies
 
 -- ---- a subscription that sends at a Publish request has it
 
-publish_given : (w : World) (n : ℕ) (ns : List ℕ) (s : Subscription) → subscription_at n w.table.subscriptions ≡ Some s → Answerable w (n ∷ ns) → IsGiven (row_of (scene_at w n call.Publish s)) (scene_at w n call.Publish s)
+publish_given : (w : Stage) (n : ℕ) (ns : List ℕ) (s : Subscription) → subscription_at n w.table.subscriptions ≡ Some s → Answerable w (n ∷ ns) → IsGiven (row_of (scene_at w n call.Publish s)) (scene_at w n call.Publish s)
 publish_given w n ns s found (inl (alone, waits, (asked, is))) = asked_given w n asked is s
 publish_given w n ns s found (inr (session, made, past, a)) = calm_given w n s (a.asking.none n s found (a.of n s (listed_first n ns) found))
 
-given_at : (w : World) (n : ℕ) (ns : List ℕ) (asked : Call) (s : Subscription) → subscription_at n w.table.subscriptions ≡ Some s → (asked ≡ call.Publish → Answerable w (n ∷ ns)) → IsGiven (row_of (scene_at w n asked s)) (scene_at w n asked s)
+given_at : (w : Stage) (n : ℕ) (ns : List ℕ) (asked : Call) (s : Subscription) → subscription_at n w.table.subscriptions ≡ Some s → (asked ≡ call.Publish → Answerable w (n ∷ ns)) → IsGiven (row_of (scene_at w n asked s)) (scene_at w n asked s)
 given_at w n ns asked s found h = by asked h
   where
     by : (asked : Call) → (asked ≡ call.Publish → Answerable w (n ∷ ns)) → IsGiven (row_of (scene_at w n asked s)) (scene_at w n asked s)
@@ -94,11 +93,11 @@ given_at w n ns asked s found h = by asked h
 
 -- ---- any call but one that makes a subscription
 
-abbrev Tell : World → List Encounter → World → Type 0
+abbrev Tell : Stage → List Encounter → Stage → Type 0
 Tell w es v = (made : ℕ) (ms : List Made) → IsMessaged made ms w.table →
     IsMessaged made (ms ++ flat_map made_at es) v.table × Tells ms w.round.replies v.round.replies (flat_map made_at es) (flat_map told_at es)
 
-next_tells : (w v u : World) (es fs : List Encounter) → Tell w es v → Tell v fs u → Tell w (es ++ fs) u
+next_tells : (w v u : Stage) (es fs : List Encounter) → Tell w es v → Tell v fs u → Tell w (es ++ fs) u
 next_tells w v u es fs p q made ms h =
     let x = p made ms h in
     let y = q made (ms ++ flat_map made_at es) x.0 in (
@@ -108,8 +107,8 @@ next_tells w v u es fs p q made ms h =
           (tells_then ms w.round.replies v.round.replies u.round.replies (flat_map made_at es) (flat_map made_at fs) (flat_map told_at es) (flat_map told_at fs) x.1 y.1)),
     )
 
-one_tells : (w : World) (n : ℕ) (ns : List ℕ) (asked : Call) (s : Subscription) → is_create asked ≡ false → subscription_at n w.table.subscriptions ≡ Some s → (asked ≡ call.Publish → Answerable w (n ∷ ns)) →
-    Tell w (Meets (scene_at w n asked s) ∷ []) (world_after n s (fired (scene_at w n asked s)) w.table)
+one_tells : (w : Stage) (n : ℕ) (ns : List ℕ) (asked : Call) (s : Subscription) → is_create asked ≡ false → subscription_at n w.table.subscriptions ≡ Some s → (asked ≡ call.Publish → Answerable w (n ∷ ns)) →
+    Tell w (Meets (scene_at w n asked s) ∷ []) (stage_after n s (fired (scene_at w n asked s)) w.table)
 one_tells w n ns asked s plain found given made ms h =
     let c = Meets (scene_at w n asked s) in (
       follows_numbers.one None asked w n ns s plain tt refl found made ms h,
@@ -131,7 +130,7 @@ follows_tell = record {
 -- where a call begins
 begins : (r : Ran) (m : Move) → IsRunKept r → Begins CanAnswer r m
 begins r (Move.Publish clock session asked acks) k = λ none is.
-    let w = world_of r.subs r.items clock in
+    let w = stage_of r.subs r.items clock in
     (refl, publish_begins session r.subs.made r.rows (with_results asked (acknowledged_all session r.subs.table.subscriptions acks).results) acks w (enter r clock k))
 begins r (Move.Create clock session settings enabled) k = tt
 begins r (Move.Gone conn) k = tt
@@ -141,26 +140,26 @@ begins r m k = λ is. absurd (cc)
 
 -- ---- one that makes a subscription
 
-refused_replies : (session : ℕ) (asked : Settings) (enabled : Bool) (w : World) → (refused_one session asked enabled w).round.replies ≡ w.round.replies
+refused_replies : (session : ℕ) (asked : Settings) (enabled : Bool) (w : Stage) → (refused_one session asked enabled w).round.replies ≡ w.round.replies
 unfolding refused_one fired row_done
 refused_replies session asked enabled w = refl
 
-added_replies : (session number : ℕ) (asked : Settings) (enabled : Bool) (w : World) → (added session number asked enabled w).round.replies ≡ w.round.replies
+added_replies : (session number : ℕ) (asked : Settings) (enabled : Bool) (w : Stage) → (added session number asked enabled w).round.replies ≡ w.round.replies
 unfolding added fired row_done
 added_replies session number asked enabled w = refl
 
-created_silent : (r : Ran) (clock : Moment) (session : ℕ) (settings : Settings) (enabled : Bool) → (created session settings enabled r.subs r.items clock).outcome.world.round.replies ≡ []
+created_silent : (r : Ran) (clock : Moment) (session : ℕ) (settings : Settings) (enabled : Bool) → (created session settings enabled r.subs r.items clock).outcome.stage.round.replies ≡ []
 unfolding created refused created_one
 created_silent r clock session settings enabled = by (is_full r.subs session)
   where
-    w : World
-    w = world_of r.subs r.items clock
+    w : Stage
+    w = stage_of r.subs r.items clock
 
-    by : (b : Bool) → (cond b (refused session settings enabled r.subs w) (created_one session settings enabled r.subs w)).outcome.world.round.replies ≡ []
+    by : (b : Bool) → (cond b (refused session settings enabled r.subs w) (created_one session settings enabled r.subs w)).outcome.stage.round.replies ≡ []
     by true = refused_replies session settings enabled w
     by false = added_replies session (r.subs.made + 1) settings enabled w
 
-created_untold : (b : Bool) (number session : ℕ) (settings : Settings) (enabled : Bool) (w : World) → flat_map told_at (Meets (made_scene b number session settings enabled w) ∷ []) ≡ []
+created_untold : (b : Bool) (number session : ℕ) (settings : Settings) (enabled : Bool) (w : Stage) → flat_map told_at (Meets (made_scene b number session settings enabled w) ∷ []) ≡ []
 created_untold true number session settings enabled w = refl
 created_untold false number session settings enabled w = refl
 
@@ -174,7 +173,7 @@ created_tells : (ms : List Made) (r : Ran) (clock : Moment) (session : ℕ) (set
 created_tells ms r clock session settings enabled =
     let m = Move.Create clock session settings enabled in
     let b = is_full r.subs session in
-    let w = world_of r.subs r.items clock in
+    let w = stage_of r.subs r.items clock in
     subst (λ (made : List Made). Tells ms r.replies (moved r m).replies made (moved_told r m)) (sym (created_none b (r.subs.made + 1) session settings enabled w))
     (subst (Tells ms r.replies (moved r m).replies []) (sym (created_untold b (r.subs.made + 1) session settings enabled w))
     (left_tells r m ms [] [] (record { so = created_silent r clock session settings enabled; brings = refl; sequence = tt })))
@@ -243,9 +242,9 @@ module _ (r : Ran) (clock : Moment) (session : ℕ) (asked : PublishCall) (acks 
       ≡ r.replies ++ published_of clock (with_results asked (acknowledged_all session r.subs.table.subscriptions acks).results) note.subscription [] false (timeout_message note.number clock) ∷ []
   unfolding published
   note_answers =
-      let w = world_of r.subs r.items clock in
+      let w = stage_of r.subs r.items clock in
       let all = acknowledged_all session r.subs.table.subscriptions acks in
-      ap (λ (o : Option TimeoutNote). r.replies ++ (answered_by o session (with_results asked all.results) (ready session acks w)).round.replies) is
+      ap (λ (o : Option TimeoutNote). r.replies ++ (noted_or_answered o session (with_results asked all.results) (ready session acks w)).round.replies) is
 
   taken_by : (part_at session (without_note session r.subs.table.sessions)).notes ≡ drop 1 (part_at session r.subs.table.sessions).notes
   taken_by = by (lookup (is_at (nat_cmp session)) r.subs.table.sessions) refl
@@ -260,6 +259,6 @@ module _ (r : Ran) (clock : Moment) (session : ℕ) (asked : PublishCall) (acks 
   pub note_taken : (part_at session (moved r (Move.Publish clock session asked acks)).subs.table.sessions).notes ≡ drop 1 (part_at session r.subs.table.sessions).notes
   unfolding published
   note_taken =
-      let w = world_of r.subs r.items clock in
+      let w = stage_of r.subs r.items clock in
       let all = acknowledged_all session r.subs.table.subscriptions acks in
-      ap (λ (o : Option TimeoutNote). (part_at session (answered_by o session (with_results asked all.results) (ready session acks w)).table.sessions).notes) is ∙ taken_by
+      ap (λ (o : Option TimeoutNote). (part_at session (noted_or_answered o session (with_results asked all.results) (ready session acks w)).table.sessions).notes) is ∙ taken_by

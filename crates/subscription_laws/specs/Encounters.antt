@@ -24,14 +24,14 @@ use Rattle.server_messages.specs.declared.fired.Fired.{Fired}
 use Rattle.ua_subscriptions.specs.Ending.{without_session, all_left, without_conn}
 use Rattle.ua_subscriptions.specs.Firing.{row_of, fired_in}
 use Rattle.ua_subscriptions.specs.Making.{kept_at}
-use Rattle.ua_subscriptions.specs.Named.{is_own, has_none, all_refused}
+use Rattle.ua_subscriptions.specs.Named.{is_own, has_none, all_refused, named_all}
 use Rattle.ua_subscriptions.specs.Answers.{refused_of}
 use Rattle.ua_subscriptions.specs.Publishing.{acknowledged_all, note_of, note_told, ready, with_round, asked_by, asked_numbers, with_results}
 use Rattle.ua_subscriptions.specs.Ranks.{due_numbers}
 use Rattle.ua_subscriptions.specs.Scenes.{Scene, scene, with_reply, row_done}
-use Rattle.ua_subscriptions.specs.SubscriptionCalls.{world_of, is_full}
+use Rattle.ua_subscriptions.specs.SubscriptionCalls.{stage_of, is_full}
 use Rattle.ua_subscriptions.specs.Subscriptions.{unborn, no_part}
-use Rattle.ua_subscriptions.specs.Tables.{World, with_call, met, part_of, part_at, subscription_at, vars_found}
+use Rattle.ua_subscriptions.specs.Tables.{Stage, with_call, scene_at, met, all_met, part_at, subscription_at, vars_found}
 use Rattle.subscription_laws.specs.Runs.{ItemsCall, items_asked, Move, Ran, start, of_run}
 
 -- ---- what is done beside
@@ -57,11 +57,11 @@ pub data Beside : Type 0 where
   -- a connection is gone, and the requests that came by it
   Loses : (conn : ℕ) → Beside
 
-abbrev pub with_items : World → ItemsState → World
+abbrev pub with_items : Stage → ItemsState → Stage
 with_items w items = record { round = w.round; table = w.table; items = items }
 
--- the world after it
-abbrev pub beside : World → Beside → World
+-- the stage after it
+abbrev pub beside : Stage → Beside → Stage
 beside w (CallsItems number asked) = with_items w (items_asked w.items number asked)
 beside w (ShowsItems changed) = with_items w (item_moves.moved w.items (item_moves.Move.Show changed)).state
 beside w (Acknowledges session acks) = ready session acks w
@@ -77,47 +77,38 @@ beside w (Loses conn) = record { round = w.round; table = without_conn conn w.ta
 
 pub data Encounter : Type 0 where
   Meets : Scene → Encounter
-  Does : World → Beside → Encounter
+  Does : Stage → Beside → Encounter
 
--- the scene of a subscription that meets a call
-abbrev pub scene_at : World → ℕ → Call → Subscription → Scene
-scene_at w number asked s = scene (with_call w.round number asked) s (part_of s.session w.table.sessions) w.items
-
-abbrev pub meets_by : World → ℕ → Call → Option Subscription → List Encounter
+abbrev pub meets_by : Stage → ℕ → Call → Option Subscription → List Encounter
 meets_by w number asked None = []
 meets_by w number asked (Some s) = Meets (scene_at w number asked s) ∷ []
 
 -- that of the subscription of a number, if it lives
-abbrev pub meets : World → ℕ → Call → List Encounter
+abbrev pub meets : Stage → ℕ → Call → List Encounter
 meets w number asked = meets_by w number asked (subscription_at number w.table.subscriptions)
 
 -- a call means any subscription, or those of a session
-abbrev pub is_meant : Option ℕ → World → ℕ → Bool
+abbrev pub is_meant : Option ℕ → Stage → ℕ → Bool
 is_meant None w number = true
 is_meant (Some session) w number = is_own w.table session number
 
-abbrev pub met_if : Bool → World → ℕ → Call → World
+abbrev pub met_if : Bool → Stage → ℕ → Call → Stage
 met_if true w number asked = met w number asked
 met_if false w number asked = w
 
--- those of several numbers that are meant, one after the other, each met by the world that those before it left
-abbrev pub all_meet : Option ℕ → Call → World → List ℕ → List Encounter
+-- those of several numbers that are meant, one after the other, each met by the stage that those before it left (`all_met`, `named_all`)
+abbrev pub all_meet : Option ℕ → Call → Stage → List ℕ → List Encounter
 all_meet whose asked w [] = []
 all_meet whose asked w (n ∷ ns) = (if is_meant whose w n then meets w n asked else []) ++ all_meet whose asked (met_if (is_meant whose w n) w n asked) ns
 
--- and the world that they leave
-abbrev pub world_met : Option ℕ → Call → World → List ℕ → World
-world_met whose asked w [] = w
-world_met whose asked w (n ∷ ns) = world_met whose asked (met_if (is_meant whose w n) w n asked) ns
-
 -- ---- a Publish request
 
-abbrev pub asked_encounters : List ℕ → PublishCall → World → List Encounter
+abbrev pub asked_encounters : List ℕ → PublishCall → Stage → List Encounter
 asked_encounters [] asked w = Does w (TellsNone asked) ∷ []
 asked_encounters (n ∷ ns) asked w = Does w (Asks asked) ∷ all_meet None call.Publish (asked_by w asked) (asked_numbers w (n ∷ ns))
 
 -- the oldest note is the answer, or else the session's subscriptions see the request
-abbrev pub noted_encounters : Option TimeoutNote → ℕ → PublishCall → List SubscriptionAcknowledgement → World → List Encounter
+abbrev pub noted_encounters : Option TimeoutNote → ℕ → PublishCall → List SubscriptionAcknowledgement → Stage → List Encounter
 noted_encounters (Some note) session asked acks w =
     let b = TellsNote session asked note in
     Does w b ∷ Does (beside w b) (Acknowledges session acks) ∷ []
@@ -126,20 +117,20 @@ noted_encounters None session asked acks w =
     Does w (Acknowledges session acks) ∷ asked_encounters (part_at session v.table.sessions).numbers asked v
 
 -- the answer has what became of the acknowledgements
-abbrev pub published_encounters : ℕ → PublishCall → List SubscriptionAcknowledgement → World → List Encounter
+abbrev pub published_encounters : ℕ → PublishCall → List SubscriptionAcknowledgement → Stage → List Encounter
 published_encounters session asked acks w =
     noted_encounters (note_of session w.table.sessions) session (with_results asked (acknowledged_all session w.table.subscriptions acks).results) acks w
 
 -- ---- any call
 
 -- the one that is made, under the number that it gets; or none, where the session holds as many as it may
-abbrev pub made_scene : Bool → ℕ → ℕ → Settings → Bool → World → Scene
+abbrev pub made_scene : Bool → ℕ → ℕ → Settings → Bool → Stage → Scene
 made_scene true number session settings enabled w = scene (with_call w.round 0 (call.Create true settings enabled)) (unborn session) no_part w.items
 made_scene false number session settings enabled w =
     scene (with_call w.round number (call.Create false settings enabled)) (unborn session) (part_at session w.table.sessions) w.items
 
 -- the items are called, and their subscription sees the variables that it had before
-abbrev pub served_encounters : ℕ → Option ItemsCall → World → Option Vars → List Encounter
+abbrev pub served_encounters : ℕ → Option ItemsCall → Stage → Option Vars → List Encounter
 served_encounters number asked w None = []
 served_encounters number asked w (Some vars) =
     let b = CallsItems number asked in
@@ -149,34 +140,34 @@ served_encounters number asked w (Some vars) =
 abbrev pub any_time : Moment
 any_time = record { 0 = pos 0 }
 
-abbrev pub if_none_left : ℕ → World → List Encounter
+abbrev pub if_none_left : ℕ → Stage → List Encounter
 if_none_left session w = if has_none session w.table then Does w (Refuses session status.BAD_NO_SUBSCRIPTION) ∷ [] else []
 
 abbrev pub encounters : Ran → Move → List Encounter
 encounters r (Move.Create clock session settings enabled) =
-    Meets (made_scene (is_full r.subs session) (r.subs.made + 1) session settings enabled (world_of r.subs r.items clock)) ∷ []
-encounters r (Move.Modify clock session number settings) = all_meet (Some session) (call.Modify settings) (world_of r.subs r.items clock) (number ∷ [])
-encounters r (Move.SetMode clock session numbers enabled) = all_meet (Some session) (call.SetMode enabled) (world_of r.subs r.items clock) numbers
+    Meets (made_scene (is_full r.subs session) (r.subs.made + 1) session settings enabled (stage_of r.subs r.items clock)) ∷ []
+encounters r (Move.Modify clock session number settings) = all_meet (Some session) (call.Modify settings) (stage_of r.subs r.items clock) (number ∷ [])
+encounters r (Move.SetMode clock session numbers enabled) = all_meet (Some session) (call.SetMode enabled) (stage_of r.subs r.items clock) numbers
 encounters r (Move.Delete clock session numbers) =
-    let w = world_of r.subs r.items clock in
-    all_meet (Some session) call.Delete w numbers ++ if_none_left session (world_met (Some session) call.Delete w numbers)
-encounters r (Move.Publish clock session asked acks) = published_encounters session asked acks (world_of r.subs r.items clock)
+    let w = stage_of r.subs r.items clock in
+    all_meet (Some session) call.Delete w numbers ++ if_none_left session (named_all session call.Delete w numbers).stage
+encounters r (Move.Publish clock session asked acks) = published_encounters session asked acks (stage_of r.subs r.items clock)
 encounters r (Move.Republish clock session number wanted) =
-    all_meet (Some session) (call.Republish (is_some (kept_at number wanted r.subs.table))) (world_of r.subs r.items clock) (number ∷ [])
-encounters r (Move.Timers clock) = all_meet None call.Timer (world_of r.subs r.items clock) (due_numbers clock r.subs.table.subscriptions)
+    all_meet (Some session) (call.Republish (is_some (kept_at number wanted r.subs.table))) (stage_of r.subs r.items clock) (number ∷ [])
+encounters r (Move.Timers clock) = all_meet None call.Timer (stage_of r.subs r.items clock) (due_numbers clock r.subs.table.subscriptions)
 encounters r (Move.EndSession clock session deleting) =
-    let w = world_of r.subs r.items clock in
+    let w = stage_of r.subs r.items clock in
     let numbers = (part_at session r.subs.table.sessions).numbers in
-    let v = world_met None (call.SessionEnd deleting) w numbers in
+    let v = all_met (call.SessionEnd deleting) w numbers in
     let b = Refuses session status.BAD_SESSION_CLOSED in
     all_meet None (call.SessionEnd deleting) w numbers ++ Does v b ∷ Does (beside v b) (Leaves session) ∷ []
 encounters r (Move.Shutdown clock) =
-    let w = world_of r.subs r.items clock in
+    let w = stage_of r.subs r.items clock in
     let numbers = keys_of r.subs.table.subscriptions in
-    all_meet None call.Shutdown w numbers ++ Does (world_met None call.Shutdown w numbers) (LeavesAll status.BAD_SHUTDOWN) ∷ []
-encounters r (Move.Gone conn) = Does (world_of r.subs r.items any_time) (Loses conn) ∷ []
-encounters r (Move.Items clock number asked) = served_encounters number asked (world_of r.subs r.items clock) (vars_found number r.items r.subs.table)
-encounters r (Move.Show changed) = Does (world_of r.subs r.items any_time) (ShowsItems changed) ∷ []
+    all_meet None call.Shutdown w numbers ++ Does (all_met call.Shutdown w numbers) (LeavesAll status.BAD_SHUTDOWN) ∷ []
+encounters r (Move.Gone conn) = Does (stage_of r.subs r.items any_time) (Loses conn) ∷ []
+encounters r (Move.Items clock number asked) = served_encounters number asked (stage_of r.subs r.items clock) (vars_found number r.items r.subs.table)
+encounters r (Move.Show changed) = Does (stage_of r.subs r.items any_time) (ShowsItems changed) ∷ []
 
 -- those of all calls, from the first on
 abbrev pub all_encounters : Configuration → List Move → List Encounter

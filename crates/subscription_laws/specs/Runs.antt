@@ -21,7 +21,7 @@ use Rattle.ua_subscriptions.specs.Ending.{session_ended, shut_down, without_conn
 use Rattle.ua_subscriptions.specs.Making.{modified, republished, timed}
 use Rattle.ua_subscriptions.specs.Named.{named_all, deleted}
 use Rattle.ua_subscriptions.specs.Publishing.{published}
-use Rattle.ua_subscriptions.specs.SubscriptionCalls.{SubscriptionsState, no_subscriptions, world_of, Said, said, told, created}
+use Rattle.ua_subscriptions.specs.SubscriptionCalls.{SubscriptionsState, no_subscriptions, stage_of, Said, said, without_answer, created}
 use Rattle.ua_subscriptions.specs.Tables.{met, vars_found}
 
 -- what a client asks of the items of a subscription
@@ -72,28 +72,28 @@ start config = record { subs = no_subscriptions config; items = no_items config;
 abbrev pub ran_by : {A : Type 0} → Ran → Said A → Ran
 ran_by before s = record {
   subs = s.state;
-  items = s.outcome.world.items;
-  rows = before.rows ++ s.outcome.world.round.rows;
-  replies = before.replies ++ s.outcome.world.round.replies;
+  items = s.outcome.stage.items;
+  rows = before.rows ++ s.outcome.stage.round.rows;
+  replies = before.replies ++ s.outcome.stage.round.replies;
 }
 
 -- where the subscription has these variables, its items are served, and the row sees both
 abbrev pub items_ran : Moment → ℕ → Option ItemsCall → Ran → Option Vars → Ran
 items_ran clock number asked before None = before
 items_ran clock number asked before (Some vars) =
-    ran_by before (told before.subs (met (world_of before.subs (items_asked before.items number asked) clock) number (call.Items vars)))
+    ran_by before (without_answer before.subs (met (stage_of before.subs (items_asked before.items number asked) clock) number (call.Items vars)))
 
 -- what a call leaves: what its contract says
 abbrev pub moved : Ran → Move → Ran
 moved r (Move.Create clock session settings enabled) = ran_by r (created session settings enabled r.subs r.items clock)
-moved r (Move.Modify clock session number settings) = ran_by r (said r.subs (modified session number settings (world_of r.subs r.items clock)))
-moved r (Move.SetMode clock session numbers enabled) = ran_by r (said r.subs (named_all session (call.SetMode enabled) (world_of r.subs r.items clock) numbers))
-moved r (Move.Delete clock session numbers) = ran_by r (said r.subs (deleted session (world_of r.subs r.items clock) numbers))
-moved r (Move.Publish clock session asked acks) = ran_by r (told r.subs (published session asked acks (world_of r.subs r.items clock)))
-moved r (Move.Republish clock session number wanted) = ran_by r (said r.subs (republished session number wanted (world_of r.subs r.items clock)))
-moved r (Move.Timers clock) = ran_by r (told r.subs (timed (world_of r.subs r.items clock)))
-moved r (Move.EndSession clock session deleting) = ran_by r (told r.subs (session_ended session deleting (world_of r.subs r.items clock)))
-moved r (Move.Shutdown clock) = ran_by r (told r.subs (shut_down (world_of r.subs r.items clock)))
+moved r (Move.Modify clock session number settings) = ran_by r (said r.subs (modified session number settings (stage_of r.subs r.items clock)))
+moved r (Move.SetMode clock session numbers enabled) = ran_by r (said r.subs (named_all session (call.SetMode enabled) (stage_of r.subs r.items clock) numbers))
+moved r (Move.Delete clock session numbers) = ran_by r (said r.subs (deleted session (stage_of r.subs r.items clock) numbers))
+moved r (Move.Publish clock session asked acks) = ran_by r (without_answer r.subs (published session asked acks (stage_of r.subs r.items clock)))
+moved r (Move.Republish clock session number wanted) = ran_by r (said r.subs (republished session number wanted (stage_of r.subs r.items clock)))
+moved r (Move.Timers clock) = ran_by r (without_answer r.subs (timed (stage_of r.subs r.items clock)))
+moved r (Move.EndSession clock session deleting) = ran_by r (without_answer r.subs (session_ended session deleting (stage_of r.subs r.items clock)))
+moved r (Move.Shutdown clock) = ran_by r (without_answer r.subs (shut_down (stage_of r.subs r.items clock)))
 moved r (Move.Gone conn) = let subs : SubscriptionsState = r.subs in record r { subs = record subs { table = without_conn conn subs.table } }
 moved r (Move.Items clock number asked) = items_ran clock number asked r (vars_found number r.items r.subs.table)
 moved r (Move.Show changed) = record r { items = (item_moves.moved r.items (item_moves.Move.Show changed)).state }

@@ -17,7 +17,7 @@ use Rattle.ua_subscriptions.specs.Messages.{number_after, keep_alive_message, ti
 use Rattle.ua_subscriptions.specs.Queues.{first_of}
 use Rattle.ua_subscriptions.specs.Scenes.{Scene, Noting, subscription_noted}
 use Rattle.subscription_laws.specs.Actions.{of_row, notings_at}
-use Rattle.ua_subscriptions.specs.Tables.{World, part_at}
+use Rattle.ua_subscriptions.specs.Tables.{Stage, part_at}
 use Rattle.subscription_laws.specs.Encounters.{Beside, TellsNote, TellsNone, Refuses, LeavesAll, Encounter, Meets, Does, encounters}
 use Rattle.ua_subscriptions.specs.declared.messages.KeptMessage.{KeptMessage}
 use Rattle.ua_subscriptions.specs.declared.publish_call.PublishCall.{PublishCall}
@@ -97,7 +97,7 @@ row_told r c = of_row action_told r c
 -- ---- any call
 
 -- what is told beside the rows: the note of a time-out, that there is no subscription, and that requests wait in vain
-abbrev pub beside_told : World → Beside → List Telling
+abbrev pub beside_told : Stage → Beside → List Telling
 beside_told w (TellsNote session asked note) = record { clock = w.round.clock; call = asked; kept = []; told = TimedOut note } ∷ []
 beside_told w (TellsNone asked) = refused_told w.round.clock status.BAD_NO_SUBSCRIPTION asked ∷ []
 beside_told w (Refuses session code) = map (refused_told w.round.clock code) (part_at session w.table.sessions).requests

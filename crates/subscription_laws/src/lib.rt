@@ -50,7 +50,7 @@ ghost use Rattle.server_messages.specs.declared.origin.Origin.{Origin};
 ghost use Rattle.subscription_laws.specs.Requests.{such_answers, such_waiting, such_came};
 ghost use Rattle.subscription_laws.specs.Runs.{Move, run, moved, start};
 ghost use Rattle.ua_subscriptions.specs.Scenes.{Scene, row_done};
-ghost use Rattle.ua_subscriptions.specs.SubscriptionCalls.{world_of};
+ghost use Rattle.ua_subscriptions.specs.SubscriptionCalls.{stage_of};
 ghost use Rattle.subscription_laws.specs.Standings.{Counts, standing_in, row_counts, IsAsked};
 ghost use Rattle.ua_subscriptions.specs.Tables.{subscription_at};
 ghost use Rattle.subscription_laws.specs.Marks.{MarksWhatFollows};
@@ -129,7 +129,7 @@ pub fn keep_alives_have_the_next_number()
 
 /// Whatever is called, one row fires for each subscription that the call concerns, at what comes to it and at the variables at
 /// which it is met, in their order, and no other. What a call concerns is written in `Concern`, a case for each kind of call;
-/// each subscription is met by the world that those before it left.
+/// each subscription is met by the stage that those before it left.
 pub fn one_row_fires_for_each()
     ensures step { (config : Configuration) (moves : List Move) (move : Move) → let r = run config moves in
         map concern_of (moved r move).rows ≡ map concern_of r.rows ++ concerned r move }
@@ -187,7 +187,7 @@ pub fn all_messages_are_numbered()
         kept_at number wanted (run config moves).subs.table ≡ Some bytes →
         IsAmong (record { number = wanted; bytes = bytes }) (messages_for number (run_made (start config) moves)) }
     ensures republished { (config : Configuration) (moves : List Move) (clock : Moment) (session number wanted : ℕ) (bytes : List ℕ) → let r = run config moves in
-        (republished session number wanted (world_of r.subs r.items clock)).answer ≡ Ok bytes →
+        (republished session number wanted (stage_of r.subs r.items clock)).answer ≡ Ok bytes →
         IsAmong (record { number = wanted; bytes = bytes }) (messages_for number (run_made (start config) moves)) }
     ensures notes { (config : Configuration) (moves : List Move) → NotesComeNext (run_made (start config) moves) (run config moves).subs.table }
 {}

@@ -10,7 +10,7 @@ use Rattle.server_messages.specs.declared.request.Request.{Request}
 use Rattle.server_messages.specs.declared.setting.Setting.{Setting}
 use Rattle.ua_services.specs.ServicesState.{Services}
 use Rattle.ua_messages.specs.declared.type_ids.TheConstants.{SET_PUBLISHING_MODE_RESPONSE, DELETE_SUBSCRIPTIONS_RESPONSE}
-use Rattle.ua_services.specs.Serving.{Occurrence, Serving, reply_of, answered, served_by}
+use Rattle.ua_services.specs.Serving.{Occurrence, Serving, reply_of, answered_at_once, served_by}
 use Rattle.ua_services.specs.Services.{call_of, Service, service_of, served_as, serving_by, serving_of, ticking_of, shutting_of, forgotten}
 use Rattle.ua_service_messages.specs.Sessions.{create_session_request_reading, activate_session_request_reading, close_session_request_reading}
 use Rattle.ua_service_messages.specs.Browsing.{browse_request_reading, browse_next_request_reading}
@@ -67,9 +67,9 @@ use Rattle.ua_monitored_items.specs.Items.{ItemsState}
 use Rattle.ua_subscriptions.specs.Making.{modified, republished}
 use Rattle.ua_subscriptions.specs.Named.{named_all, deleted}
 use Rattle.ua_subscriptions.specs.declared.call.Call.TheVariants.{SetMode, Items}
-use Rattle.ua_subscriptions.specs.SubscriptionCalls.{SubscriptionsState, Said, said, told, world_of, is_full, created, refused, created_one}
+use Rattle.ua_subscriptions.specs.SubscriptionCalls.{SubscriptionsState, Said, said, without_answer, stage_of, is_full, created, refused, created_one}
 use Rattle.ua_subscriptions.specs.declared.settings.Settings.{Settings}
-use Rattle.ua_subscriptions.specs.Tables.{World, met}
+use Rattle.ua_subscriptions.specs.Tables.{Stage, met}
 use Rattle.ua_subscriptions.specs.Ending.{shut_down}
 use Rattle.ua_subscriptions.proofs.OwingSubs.{create_owes_only, modify_owes_only, set_mode_owes_only, delete_owes_only, republish_owes_only, items_owes_only, publish_owes_only, timers_owe_only, session_end_owes_only, shut_down_owes_only, shut_down_queued, without_conn_queued, queued_more}
 use Rattle.ua_session.specs.Sessions.{ticked, ended_by}
@@ -87,7 +87,7 @@ use Rattle.ua_services.specs.SetMonitoringMode.{items_moded, set_monitoring_mode
 use Rattle.ua_services.specs.SetTriggering.{items_linked, set_triggering_meaning}
 use Rattle.ua_services.specs.SetPublishingMode.{set_publishing_listed, set_publishing_mode_meaning}
 use Rattle.ua_services.specs.StatusResults.{statuses_body}
-use Rattle.ua_services.specs.SubServing.{world_at, called, no_reply, told_alone, nothing_done, and_then, session_over, timed_out, all_timed_out, timers_met}
+use Rattle.ua_services.specs.SubServing.{stage_at, called, no_reply, called_alone, nothing_done, and_then, session_over, timed_out, all_timed_out, timers_met}
 use Rattle.ua_services.specs.Owing.{OwesOnly, ServesOnly}
 use Rattle.ua_services.specs.declared.caller.Caller.{Caller}
 
@@ -96,7 +96,7 @@ created_halts : (session : ℕ) (asked : Settings) (enabled : Bool) (subs : Subs
 unfolding created refused created_one
 created_halts session asked enabled subs items clock = by (is_full subs session)
   where
-    by : (full : Bool) → (cond full (refused session asked enabled subs (world_of subs items clock)) (created_one session asked enabled subs (world_of subs items clock))).state.halted ≡ subs.halted
+    by : (full : Bool) → (cond full (refused session asked enabled subs (stage_of subs items clock)) (created_one session asked enabled subs (stage_of subs items clock))).state.halted ≡ subs.halted
     by true = refl
     by false = refl
 
@@ -134,14 +134,14 @@ module _ (Such : ℕ → Type 0) where
   both_replied (x ∷ xs) ys p q = (p.0, both_replied xs ys p.1 q)
 
   called_only : {A : Type 0} (state : Services) (own : A → List Reply) (said : Said A) → ((x : A) → RepliedTo Such (own x)) → SaysOnly Such said → said.state.halted ≡ None → ServesOnly Such (called state own said)
-  called_only state own said q p going = record { state = (p.queued, going); replies = both_replied (own said.outcome.answer) said.outcome.world.round.replies (q said.outcome.answer) p.replies }
+  called_only state own said q p going = record { state = (p.queued, going); replies = both_replied (own said.outcome.answer) said.outcome.stage.round.replies (q said.outcome.answer) p.replies }
 
   first_only : {A : Type 0} (state : Services) (caller : Caller) (body : A → List ℕ) (said : Said A) → Such caller.origin.conn → SaysOnly Such said → said.state.halted ≡ None → ServesOnly Such (called state (λ answer. reply_of caller (body answer) ∷ []) said)
   first_only state caller body said q p going = record { state = (p.queued, going); replies = (q, p.replies) }
 
-  told_only : (state : Services) (w : World) → SaysOnly Such (told state.subs w) → state.subs.halted ≡ None → ServesOnly Such (told_alone state w)
-  unfolding told_alone
-  told_only state w p going = called_only state no_reply (told state.subs w) (λ x. tt) p going
+  told_only : (state : Services) (w : Stage) → SaysOnly Such (without_answer state.subs w) → state.subs.halted ≡ None → ServesOnly Such (called_alone state w)
+  unfolding called_alone
+  told_only state w p going = called_only state no_reply (without_answer state.subs w) (λ x. tt) p going
 
   then_only : (s : Serving) (more : Services → Serving) → ServesOnly Such s → ((state : Services) → OwesOnly Such state → ServesOnly Such (more state)) → ServesOnly Such (and_then s more)
   then_only s more p f = let t = f s.state p.state in record { state = t.state; replies = both_replied s.replies (more s.state).replies p.replies t.replies }
@@ -158,7 +158,7 @@ module _ (Such : ℕ → Type 0) where
 
   closed_only : (setting : Setting) (caller : Caller) (deleting : Bool) (state : Services) → OwesOnly Such state → Such caller.origin.conn → (answer : Result ℕ Status) (sessions : SessionsState) → ServesOnly Such (closed_by setting caller deleting state answer sessions)
   closed_only setting caller deleting state p q (Ok number) sessions =
-      then_only (session_over setting deleting number (with_sessions state sessions)) (λ (after : Services). answered after caller (close_session_body setting caller))
+      then_only (session_over setting deleting number (with_sessions state sessions)) (λ (after : Services). answered_at_once after caller (close_session_body setting caller))
       (over_only setting deleting number (with_sessions state sessions) p) (λ after owes. record { state = owes; replies = (q, tt) })
   closed_only setting caller deleting state p q (Err code) sessions = record { state = p; replies = (q, tt) }
 
@@ -240,11 +240,11 @@ module _ (Such : ℕ → Type 0) where
 
   modify_subscription_only : (setting : Setting) (caller : Caller) → Such caller.origin.conn → (session : ℕ) (request : ModifySubscriptionRequest) (state : Services) → OwesOnly Such state → ServesOnly Such (modify_subscription_meaning setting caller session request state)
   modify_subscription_only setting caller q session request state p =
-      first_only state caller (modify_subscription_body setting caller) (said state.subs (modified session request.subscription_id (settings_wanted request) (world_at setting state))) q (modify_owes_only Such state.subs state.items setting.clock session request.subscription_id (settings_wanted request) p.0) p.1
+      first_only state caller (modify_subscription_body setting caller) (said state.subs (modified session request.subscription_id (settings_wanted request) (stage_at setting state))) q (modify_owes_only Such state.subs state.items setting.clock session request.subscription_id (settings_wanted request) p.0) p.1
 
   publishing_listed_only : (setting : Setting) (caller : Caller) (session : ℕ) (enabled : Bool) (state : Services) → OwesOnly Such state → Such caller.origin.conn → (r : Result (List ℕ) Status) → ServesOnly Such (set_publishing_listed setting caller session enabled state r)
   publishing_listed_only setting caller session enabled state p q (Ok numbers) =
-      first_only state caller (statuses_body SET_PUBLISHING_MODE_RESPONSE setting caller) (said state.subs (named_all session (SetMode enabled) (world_at setting state) numbers)) q (set_mode_owes_only Such state.subs state.items setting.clock session numbers enabled p.0) p.1
+      first_only state caller (statuses_body SET_PUBLISHING_MODE_RESPONSE setting caller) (said state.subs (named_all session (SetMode enabled) (stage_at setting state) numbers)) q (set_mode_owes_only Such state.subs state.items setting.clock session numbers enabled p.0) p.1
   publishing_listed_only setting caller session enabled state p q (Err code) = record { state = p; replies = (q, tt) }
 
   set_publishing_mode_only : (setting : Setting) (caller : Caller) → Such caller.origin.conn → (session : ℕ) (request : SetPublishingModeRequest) (state : Services) → OwesOnly Such state → ServesOnly Such (set_publishing_mode_meaning setting caller session request state)
@@ -252,7 +252,7 @@ module _ (Such : ℕ → Type 0) where
 
   subscriptions_deleted_only : (setting : Setting) (caller : Caller) (session : ℕ) (state : Services) → OwesOnly Such state → Such caller.origin.conn → (r : Result (List ℕ) Status) → ServesOnly Such (delete_subscriptions_listed setting caller session state r)
   subscriptions_deleted_only setting caller session state p q (Ok numbers) =
-      first_only state caller (statuses_body DELETE_SUBSCRIPTIONS_RESPONSE setting caller) (said state.subs (deleted session (world_at setting state) numbers)) q (delete_owes_only Such state.subs state.items setting.clock session numbers p.0) p.1
+      first_only state caller (statuses_body DELETE_SUBSCRIPTIONS_RESPONSE setting caller) (said state.subs (deleted session (stage_at setting state) numbers)) q (delete_owes_only Such state.subs state.items setting.clock session numbers p.0) p.1
   subscriptions_deleted_only setting caller session state p q (Err code) = record { state = p; replies = (q, tt) }
 
   delete_subscriptions_only : (setting : Setting) (caller : Caller) → Such caller.origin.conn → (session : ℕ) (request : DeleteSubscriptionsRequest) (state : Services) → OwesOnly Such state → ServesOnly Such (delete_subscriptions_meaning setting caller session request state)
@@ -266,14 +266,14 @@ module _ (Such : ℕ → Type 0) where
 
   republish_only : (setting : Setting) (caller : Caller) → Such caller.origin.conn → (session : ℕ) (request : RepublishRequest) (state : Services) → OwesOnly Such state → ServesOnly Such (republish_meaning setting caller session request state)
   republish_only setting caller q session request state p =
-      first_only state caller (republish_answer setting caller) (said state.subs (republished session request.subscription_id request.retransmit_sequence_number (world_at setting state))) q (republish_owes_only Such state.subs state.items setting.clock session request.subscription_id request.retransmit_sequence_number p.0) p.1
+      first_only state caller (republish_answer setting caller) (said state.subs (republished session request.subscription_id request.retransmit_sequence_number (stage_at setting state))) q (republish_owes_only Such state.subs state.items setting.clock session request.subscription_id request.retransmit_sequence_number p.0) p.1
 
   -- ---- monitored items
 
   items_called_only : (setting : Setting) (caller : Caller) (number : ℕ) (state : Services) (done : Itemed) → OwesOnly Such state → Such caller.origin.conn → (before : Option Vars) → ServesOnly Such (items_called_by setting caller number state done before)
   items_called_only setting caller number state done p q None = record { state = p; replies = (q, tt) }
   items_called_only setting caller number state done p q (Some before) =
-      first_only (with_items state done.items) caller (λ (x : Unit {0}). done.body) (told state.subs (met (world_at setting (with_items state done.items)) number (Items before))) q (items_owes_only Such state.subs done.items setting.clock number before p.0) p.1
+      first_only (with_items state done.items) caller (λ (x : Unit {0}). done.body) (without_answer state.subs (met (stage_at setting (with_items state done.items)) number (Items before))) q (items_owes_only Such state.subs done.items setting.clock number before p.0) p.1
 
   picked_only : (setting : Setting) (caller : Caller) (token : NodeId) (fields : List ℕ) (state : Services) (service : Option Service) → OwesOnly Such state → Such caller.origin.conn → ServesOnly Such (served_as setting caller token fields state service)
   picked_only setting caller token fields state (Some Service.GetEndpoints) p q = by_fields get_endpoints_meaning setting caller token state p q (get_endpoints_only setting caller token state p q) (fields_of get_endpoints_request_reading fields)
@@ -319,7 +319,7 @@ module _ (Such : ℕ → Type 0) where
   pub shutting_only : (setting : Setting) (state : Services) → OwesOnly Such state → ServesOnly Such (shutting_of setting state)
   unfolding shutting_of
   shutting_only setting state p =
-      let s = told_only state (shut_down (world_at setting state)) (shut_down_owes_only Such state.subs state.items setting.clock p.0) p.1 in
+      let s = told_only state (shut_down (stage_at setting state)) (shut_down_owes_only Such state.subs state.items setting.clock p.0) p.1 in
       record { state = s.state; replies = s.replies }
 
   -- a connection that is forgotten waits for nothing
@@ -328,7 +328,7 @@ module _ (Such : ℕ → Type 0) where
 
 -- whoever asked, nothing waits once the server has ended
 pub shutting_owes_none : (Asked Such : ℕ → Type 0) (setting : Setting) (state : Services) → OwesOnly Asked (shutting_of setting state).state → OwesOnly Such (shutting_of setting state).state
-unfolding shutting_of told_alone
+unfolding shutting_of called_alone
 shutting_owes_none Asked Such setting state p = (shut_down_queued Such state.subs state.items setting.clock, p.1)
 
 -- what is true of more connections

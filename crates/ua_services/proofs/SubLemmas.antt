@@ -9,10 +9,10 @@ use Rattle.ua_monitored_items.specs.Items.{ItemsState, One, Served as ItemsServe
 use Rattle.ua_subscriptions.specs.Ending.{shut_down}
 use Rattle.ua_subscriptions.specs.Named.{Outcome, outcome, own_met, named_one, named_all, deleted, is_none}
 use Rattle.ua_subscriptions.specs.SubscriptionCalls as subs
-use Rattle.ua_subscriptions.specs.SubscriptionCalls.{SubscriptionsState, Said, told, Halts}
+use Rattle.ua_subscriptions.specs.SubscriptionCalls.{SubscriptionsState, Said, without_answer, Halts}
 use Rattle.ua_subscriptions.specs.Ranks.{due_numbers, is_any_due}
 use Rattle.ua_subscriptions.specs.Scenes.{is_overspent}
-use Rattle.ua_subscriptions.specs.Tables.{World, all_met}
+use Rattle.ua_subscriptions.specs.Tables.{Stage, all_met}
 use Rattle.ua_subscriptions.proofs.Dues.{none_due}
 use Rattle.ua_session.specs.Sessions.{ticked, ended_by}
 use Rattle.ua_services.specs.Services.{is_idle, ticking_of, shutting_of}
@@ -33,7 +33,7 @@ use Rattle.ua_services.specs.ServicesState.{Services}
 use Rattle.ua_services.specs.Serving.{Occurrence, Serving, Given, Serves, is_spent, given, given_of, rows_of, stored_of, served, joined, reply_of, reply_before, Judges}
 use Rattle.ua_services.specs.Serving.Occurrence.{Fire, Store, Spent}
 use Rattle.ua_services.specs.declared.caller.Caller.{Caller}
-use Rattle.ua_services.specs.SubServing.{with_subs, fires, uncounted, is_uncounted, occurrences_of, called, no_reply, told_alone, nothing_done, both, and_then, session_over, timed_out, all_timed_out, timers_met, world_at}
+use Rattle.ua_services.specs.SubServing.{with_subs, fires, uncounted, is_uncounted, occurrences_of, called, no_reply, called_alone, nothing_done, both, and_then, session_over, timed_out, all_timed_out, timers_met, stage_at}
 
 -- ---- rows, and serials that are spent
 
@@ -113,44 +113,44 @@ module _ {A : Type 0} (state : Services) (own : A → List Reply) (said : Said A
   pub called_gives : (x : Answered A) (new : SubscriptionsState) (items : ItemsState) (given_served : Served) → subs.Serves (Ok x) state.subs new items said → given_served ≡ served (own x.answer ++ x.replies) x.rows →
       given (with_subs state new items) given_served ≡ given_of (called state own said)
   called_gives x new items given_served h e =
-      let round = said.outcome.world.round in
+      let round = said.outcome.stage.round in
       ap (given (with_subs state new items)) e
       ∙ ap (λ (y : Answered A). given (with_subs state new items) (served (own y.answer ++ y.replies) y.rows)) h.1
       ∙ ap (λ (s : SubscriptionsState). given (with_subs state s items) (served (own said.outcome.answer ++ round.replies) round.rows)) h.2
       ∙ ap (λ (i : ItemsState). given (with_subs state said.state i) (served (own said.outcome.answer ++ round.replies) round.rows)) h.3
-      ∙ ap (λ (rows : List Fired). given (with_subs state said.state said.outcome.world.items) (served (own said.outcome.answer ++ round.replies) rows)) (sym (rows_of_round state.subs.halted round))
-      ∙ ap (λ (ss : List Stored). let g : Given = given (with_subs state said.state said.outcome.world.items) (record { replies = own said.outcome.answer ++ round.replies; rows = rows_of (occurrences_of state.subs.halted round); stored = ss }) in g)
+      ∙ ap (λ (rows : List Fired). given (with_subs state said.state said.outcome.stage.items) (served (own said.outcome.answer ++ round.replies) rows)) (sym (rows_of_round state.subs.halted round))
+      ∙ ap (λ (ss : List Stored). let g : Given = given (with_subs state said.state said.outcome.stage.items) (record { replies = own said.outcome.answer ++ round.replies; rows = rows_of (occurrences_of state.subs.halted round); stored = ss }) in g)
       (sym (rounds_store_none state.subs.halted round))
       ∙ ap (λ (b : Bool). let g : Given = record (given_of (called state own said)) { spends = b } in g) (sym (counted_in state.subs.halted round h.0 h.4))
 
   pub called_halts : (halt : Halt) (new : SubscriptionsState) (items : ItemsState) → subs.Serves (Err halt) state.subs new items said → Serves (Err halt) (with_subs state new items) (called state own said)
   called_halts Memory new items h = tt
   called_halts Exhausted new items h =
-      let round = said.outcome.world.round in
+      let round = said.outcome.stage.round in
       spent_right (fires round.rows) (uncounted state.subs.halted round) (any_spent (is_uncounted state.subs.halted round) (counted_out state.subs.halted round h.1))
 
 -- a call that answers Publish requests alone
-module _ (state : Services) (w : World) where
-  pub told_gives : (x : Answered (Unit {0})) (new : SubscriptionsState) (items : ItemsState) (given_served : Served) → subs.Serves (Ok x) state.subs new items (told state.subs w) → given_served ≡ served x.replies x.rows →
-      given (with_subs state new items) given_served ≡ given_of (told_alone state w)
-  unfolding told_alone
-  told_gives x new items given_served h e = called_gives state no_reply (told state.subs w) x new items given_served h e
+module _ (state : Services) (w : Stage) where
+  pub told_gives : (x : Answered (Unit {0})) (new : SubscriptionsState) (items : ItemsState) (given_served : Served) → subs.Serves (Ok x) state.subs new items (without_answer state.subs w) → given_served ≡ served x.replies x.rows →
+      given (with_subs state new items) given_served ≡ given_of (called_alone state w)
+  unfolding called_alone
+  told_gives x new items given_served h e = called_gives state no_reply (without_answer state.subs w) x new items given_served h e
 
-  pub told_halts : (halt : Halt) (new : SubscriptionsState) (items : ItemsState) → subs.Serves (Err halt) state.subs new items (told state.subs w) → Serves (Err halt) (with_subs state new items) (told_alone state w)
-  unfolding told_alone
-  told_halts halt new items h = called_halts state no_reply (told state.subs w) halt new items h
+  pub told_halts : (halt : Halt) (new : SubscriptionsState) (items : ItemsState) → subs.Serves (Err halt) state.subs new items (without_answer state.subs w) → Serves (Err halt) (with_subs state new items) (called_alone state w)
+  unfolding called_alone
+  told_halts halt new items h = called_halts state no_reply (without_answer state.subs w) halt new items h
 
   -- the same of a service that refuses no such call
-  pub told_judged : (setting : Setting) (caller : Caller) (halt : Halt) (new : SubscriptionsState) (items : ItemsState) → subs.Serves (Err halt) state.subs new items (told state.subs w) → Judges setting caller (Err (refusal_of halt)) (with_subs state new items) (told_alone state w)
-  unfolding told_alone
+  pub told_judged : (setting : Setting) (caller : Caller) (halt : Halt) (new : SubscriptionsState) (items : ItemsState) → subs.Serves (Err halt) state.subs new items (without_answer state.subs w) → Judges setting caller (Err (refusal_of halt)) (with_subs state new items) (called_alone state w)
+  unfolding called_alone
   told_judged setting caller Memory new items h = refl
-  told_judged setting caller Exhausted new items h = called_halts state no_reply (told state.subs w) Exhausted new items h
+  told_judged setting caller Exhausted new items h = called_halts state no_reply (without_answer state.subs w) Exhausted new items h
 
 -- a shutdown that halts does so for its subscriptions
-pub shutting_halts : (setting : Setting) (state : Services) (halt : Halt) (new : SubscriptionsState) (items : ItemsState) → subs.Serves (Err halt) state.subs new items (told state.subs (shut_down (world_at setting state))) → Serves (Err halt) (with_subs state new items) (shutting_of setting state)
+pub shutting_halts : (setting : Setting) (state : Services) (halt : Halt) (new : SubscriptionsState) (items : ItemsState) → subs.Serves (Err halt) state.subs new items (without_answer state.subs (shut_down (stage_at setting state))) → Serves (Err halt) (with_subs state new items) (shutting_of setting state)
 unfolding shutting_of
 shutting_halts setting state Memory new items h = tt
-shutting_halts setting state Exhausted new items h = told_halts state (shut_down (world_at setting state)) Exhausted new items h
+shutting_halts setting state Exhausted new items h = told_halts state (shut_down (stage_at setting state)) Exhausted new items h
 
 -- a call whose answer is told first, and then what else is served
 pub called_first : {A : Type 0} (state : Services) (caller : Caller) (body : A → List ℕ) (said : Said A) (x : Answered A) (new : SubscriptionsState) (items : ItemsState) (others : Served) (bytes : List ℕ) (all : Served) → subs.Serves (Ok x) state.subs new items said →
@@ -242,13 +242,13 @@ named_more : (session : ℕ) (call : SubCall) (numbers : List ℕ) (b : Outcome 
 named_more session call [] b = omega arith
 named_more session call (number ∷ numbers) b =
     let rest = named_more session call numbers (named_one session call b number) in
-    let one = pushed_length b.answer (own_met session call b.world number).answer in
+    let one = pushed_length b.answer (own_met session call b.stage number).answer in
     omega (arith, rest, one)
 
-pub named_length : (session : ℕ) (call : SubCall) (w : World) (numbers : List ℕ) → length (named_all session call w numbers).answer ≡ length numbers
+pub named_length : (session : ℕ) (call : SubCall) (w : Stage) (numbers : List ℕ) → length (named_all session call w numbers).answer ≡ length numbers
 named_length session call w numbers = omega (arith, named_more session call numbers (outcome [] w))
 
-pub deleted_length : (session : ℕ) (w : World) (numbers : List ℕ) → length (deleted session w numbers).answer ≡ length numbers
+pub deleted_length : (session : ℕ) (w : Stage) (numbers : List ℕ) → length (deleted session w numbers).answer ≡ length numbers
 unfolding deleted
 deleted_length session w numbers = omega (arith, named_more session Delete numbers (outcome [] w))
 
@@ -278,10 +278,10 @@ is_nothing (number ∷ numbers) h = absurd (false≢true h)
 
 says_nothing : (setting : Setting) (state : Services) (numbers : List ℕ) → numbers ≡ [] → due_numbers setting.clock state.subs.table.subscriptions ≡ [] →
     (and_then (all_timed_out setting state numbers) (timers_met setting)).replies ≡ []
-unfolding told_alone
+unfolding called_alone
 says_nothing setting state numbers none not_due =
     ap (λ (ns : List ℕ). (and_then (all_timed_out setting state ns) (timers_met setting)).replies) none
-    ∙ ap (λ (ns : List ℕ). (all_met Timer (world_at setting state) ns).round.replies) not_due
+    ∙ ap (λ (ns : List ℕ). (all_met Timer (stage_at setting state) ns).round.replies) not_due
 
 -- a tick at which nothing is due answers no one
 pub idle_is_silent : (setting : Setting) (state : Services) → is_idle setting state ≡ true → (ticking_of setting state).replies ≡ []

@@ -11,7 +11,7 @@ use Rattle.ua_service_messages.specs.declared.sessions.CloseSessionRequest.{Clos
 use Rattle.ua_session.specs.Sessions.{SessionsState, close_of}
 use Rattle.server_messages.specs.declared.setting.Setting.{Setting}
 use Rattle.ua_services.specs.ServicesState.{Services}
-use Rattle.ua_services.specs.Serving.{Serving, answered, faulted}
+use Rattle.ua_services.specs.Serving.{Serving, answered_at_once, faulted}
 use Rattle.ua_services.specs.SessionServing.{with_sessions}
 use Rattle.ua_services.specs.SubServing.{and_then, session_over}
 use Rattle.ua_services.specs.declared.caller.Caller.{Caller}
@@ -23,7 +23,7 @@ close_session_body setting caller =
 -- the Publish requests that wait are answered before the close itself
 abbrev pub closed_by : Setting → Caller → Bool → Services → Result ℕ Status → SessionsState → Serving
 closed_by setting caller deleting state (Ok number) sessions =
-    and_then (session_over setting deleting number (with_sessions state sessions)) (λ (after : Services). answered after caller (close_session_body setting caller))
+    and_then (session_over setting deleting number (with_sessions state sessions)) (λ (after : Services). answered_at_once after caller (close_session_body setting caller))
 closed_by setting caller deleting state (Err code) sessions = faulted (with_sessions state sessions) caller code setting.clock
 
 abbrev pub closed : Setting → Caller → Bool → Services → Step ℕ Status SessionsState → Serving

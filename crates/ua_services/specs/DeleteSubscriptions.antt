@@ -10,13 +10,13 @@ use Rattle.ua_services.specs.Operations.{operations_of}
 use Rattle.ua_services.specs.ServicesState.{Services}
 use Rattle.ua_services.specs.Serving.{Serving, reply_of, faulted}
 use Rattle.ua_services.specs.StatusResults.{statuses_body}
-use Rattle.ua_services.specs.SubServing.{called, world_at}
+use Rattle.ua_services.specs.SubServing.{called, stage_at}
 use Rattle.ua_services.specs.declared.caller.Caller.{Caller}
 
 abbrev pub delete_subscriptions_listed : Setting → Caller → ℕ → Services → Result (List ℕ) Status → Serving
 delete_subscriptions_listed setting caller session state (Ok numbers) =
     called state (λ statuses. reply_of caller (statuses_body DELETE_SUBSCRIPTIONS_RESPONSE setting caller statuses) ∷ [])
-    (said state.subs (deleted session (world_at setting state) numbers))
+    (said state.subs (deleted session (stage_at setting state) numbers))
 delete_subscriptions_listed setting caller session state (Err code) = faulted state caller code setting.clock
 
 -- the list is judged first; then each subscription goes. Where the session has none left, its Publish requests are answered

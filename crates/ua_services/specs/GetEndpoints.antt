@@ -7,10 +7,10 @@ use Rattle.ua_messages.specs.declared.type_ids.TheConstants.{GET_ENDPOINTS_RESPO
 use Rattle.server_messages.specs.declared.setting.Setting.{Setting}
 use Rattle.ua_services.specs.EndpointList.{endpoints_response}
 use Rattle.ua_services.specs.ServicesState.{Services}
-use Rattle.ua_services.specs.Serving.{Serving, answered}
+use Rattle.ua_services.specs.Serving.{Serving, answered_at_once}
 use Rattle.ua_services.specs.declared.caller.Caller.{Caller}
 
 abbrev pub get_endpoints_meaning : Setting → Caller → NodeId → GetEndpointsRequest → Services → Serving
 get_endpoints_meaning setting caller token request state =
-    answered state caller (body_encoding get_endpoints_response_encoding GET_ENDPOINTS_RESPONSE
+    answered_at_once state caller (body_encoding get_endpoints_response_encoding GET_ENDPOINTS_RESPONSE
     (endpoints_response setting.config setting.clock caller.origin.handle request.profile_uris))

@@ -12,12 +12,12 @@ use Rattle.server_messages.specs.declared.setting.Setting.{Setting}
 use Rattle.ua_monitored_items.specs.Items.{ItemsState, Served}
 use Rattle.ua_state_table.specs.declared.vars.Vars.{Vars}
 use Rattle.ua_subscriptions.specs.Named.{is_own}
-use Rattle.ua_subscriptions.specs.SubscriptionCalls.{told}
+use Rattle.ua_subscriptions.specs.SubscriptionCalls.{without_answer}
 use Rattle.ua_subscriptions.specs.Tables.{met, vars_found}
 use Rattle.ua_subscriptions.specs.declared.call.Call.TheVariants.{Items}
 use Rattle.ua_services.specs.ServicesState.{Services}
 use Rattle.ua_services.specs.Serving.{Serving, reply_of, faulted}
-use Rattle.ua_services.specs.SubServing.{called, world_at}
+use Rattle.ua_services.specs.SubServing.{called, stage_at}
 use Rattle.ua_services.specs.declared.caller.Caller.{Caller}
 
 abbrev pub with_items : Services → ItemsState → Services
@@ -58,7 +58,7 @@ own_vars session number state = if is_own state.subs.table session number then v
 -- its subscription fires a row, whatever became of the request
 abbrev pub fired_after : Setting → Caller → ℕ → Services → Vars → List ℕ → Serving
 fired_after setting caller number state before body =
-    called state (λ done. reply_of caller body ∷ []) (told state.subs (met (world_at setting state) number (Items before)))
+    called state (λ done. reply_of caller body ∷ []) (without_answer state.subs (met (stage_at setting state) number (Items before)))
 
 abbrev pub items_called_by : Setting → Caller → ℕ → Services → Itemed → Option Vars → Serving
 items_called_by setting caller number state done None = faulted state caller status.BAD_SUBSCRIPTION_ID_INVALID setting.clock

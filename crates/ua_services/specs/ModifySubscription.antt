@@ -14,7 +14,7 @@ use Rattle.ua_subscriptions.specs.declared.making.Revised.{Revised}
 use Rattle.ua_subscriptions.specs.declared.settings.Settings.{Settings}
 use Rattle.ua_services.specs.ServicesState.{Services}
 use Rattle.ua_services.specs.Serving.{Serving, reply_of}
-use Rattle.ua_services.specs.SubServing.{called, world_at}
+use Rattle.ua_services.specs.SubServing.{called, stage_at}
 use Rattle.ua_services.specs.declared.caller.Caller.{Caller}
 
 -- what the client asks of its subscription from now on
@@ -41,4 +41,4 @@ modify_subscription_body setting caller (Err code) = fault_body caller.origin.ha
 abbrev pub modify_subscription_meaning : Setting → Caller → ℕ → ModifySubscriptionRequest → Services → Serving
 modify_subscription_meaning setting caller session request state =
     called state (λ answer. reply_of caller (modify_subscription_body setting caller answer) ∷ [])
-    (said state.subs (modified session request.subscription_id (settings_wanted request) (world_at setting state)))
+    (said state.subs (modified session request.subscription_id (settings_wanted request) (stage_at setting state)))

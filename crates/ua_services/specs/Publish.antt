@@ -9,7 +9,7 @@ use Rattle.ua_subscriptions.specs.Publishing.{published}
 use Rattle.ua_subscriptions.specs.declared.publish_call.PublishCall.{PublishCall}
 use Rattle.ua_services.specs.ServicesState.{Services}
 use Rattle.ua_services.specs.Serving.{Serving, faulted}
-use Rattle.ua_services.specs.SubServing.{told_alone, world_at}
+use Rattle.ua_services.specs.SubServing.{called_alone, stage_at}
 use Rattle.ua_services.specs.declared.caller.Caller.{Caller}
 
 -- the request as it waits, before its acknowledgements are applied
@@ -19,7 +19,7 @@ publish_call caller = record { origin = caller.origin; results = [] }
 abbrev pub publish_acknowledged : Setting → Caller → ℕ → Services → List SubscriptionAcknowledgement → Serving
 publish_acknowledged setting caller session state acks =
     if nat_lt setting.config.operations (length acks) then faulted state caller status.BAD_TOO_MANY_OPERATIONS setting.clock
-    else told_alone state (published session (publish_call caller) acks (world_at setting state))
+    else called_alone state (published session (publish_call caller) acks (stage_at setting state))
 
 -- the acknowledgements may be none; the answer comes now, or waits
 abbrev pub publish_meaning : Setting → Caller → ℕ → PublishRequest → Services → Serving

@@ -15,7 +15,7 @@ use Rattle.ua_read_write.specs.declared.timestamps.Timestamps.{Timestamps}
 use Rattle.server_messages.specs.declared.setting.Setting.{Setting}
 use Rattle.ua_services.specs.Operations.{operations_of}
 use Rattle.ua_services.specs.ServicesState.{Services}
-use Rattle.ua_services.specs.Serving.{Serving, answered, faulted}
+use Rattle.ua_services.specs.Serving.{Serving, answered_at_once, faulted}
 use Rattle.ua_services.specs.declared.caller.Caller.{Caller}
 
 -- the value of each attribute, in the order of the request
@@ -25,7 +25,7 @@ read_response_body setting caller state timestamps nodes =
     (results_of (plain_header caller.origin.handle (record { 0 = 0 }) setting.clock) (all_read state.space.nodes setting.clock timestamps nodes))
 
 abbrev pub read_listed : Setting → Caller → Services → Timestamps → Result (List ReadValueId) Status → Serving
-read_listed setting caller state timestamps (Ok nodes) = answered state caller (read_response_body setting caller state timestamps nodes)
+read_listed setting caller state timestamps (Ok nodes) = answered_at_once state caller (read_response_body setting caller state timestamps nodes)
 read_listed setting caller state timestamps (Err code) = faulted state caller code setting.clock
 
 abbrev pub read_timed : Setting → Caller → Services → Option (List ReadValueId) → Option Timestamps → Serving

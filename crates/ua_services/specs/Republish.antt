@@ -10,7 +10,7 @@ use Rattle.ua_subscriptions.specs.Making.{republished}
 use Rattle.ua_subscriptions.specs.SubscriptionCalls.{said}
 use Rattle.ua_services.specs.ServicesState.{Services}
 use Rattle.ua_services.specs.Serving.{Serving, reply_of}
-use Rattle.ua_services.specs.SubServing.{called, world_at}
+use Rattle.ua_services.specs.SubServing.{called, stage_at}
 use Rattle.ua_services.specs.declared.caller.Caller.{Caller}
 
 -- the message's bytes as they were made, or why there are none
@@ -22,4 +22,4 @@ republish_answer setting caller (Err code) = fault_body caller.origin.handle cod
 abbrev pub republish_meaning : Setting → Caller → ℕ → RepublishRequest → Services → Serving
 republish_meaning setting caller session request state =
     called state (λ answer. reply_of caller (republish_answer setting caller answer) ∷ [])
-    (said state.subs (republished session request.subscription_id request.retransmit_sequence_number (world_at setting state)))
+    (said state.subs (republished session request.subscription_id request.retransmit_sequence_number (stage_at setting state)))

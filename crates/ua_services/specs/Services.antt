@@ -45,7 +45,7 @@ use Rattle.ua_services.specs.SessionServing.{with_sessions}
 use Rattle.ua_services.specs.SetMonitoringMode.{set_monitoring_mode_meaning}
 use Rattle.ua_services.specs.SetPublishingMode.{set_publishing_mode_meaning}
 use Rattle.ua_services.specs.SetTriggering.{set_triggering_meaning}
-use Rattle.ua_services.specs.SubServing.{world_at, told_alone, and_then, all_timed_out, timers_met}
+use Rattle.ua_services.specs.SubServing.{stage_at, called_alone, and_then, all_timed_out, timers_met}
 use Rattle.ua_services.specs.Write.{write_meaning}
 use Rattle.ua_services.specs.ServicesState.{Services}
 use Rattle.ua_services.specs.Serving.{Serving, faulted, served_by}
@@ -134,7 +134,7 @@ is_idle setting state =
 -- the server ends: all subscriptions do, the Publish requests that wait are answered, and no session is left
 unfoldable pub shutting_of : Setting → Services → Serving
 shutting_of setting state =
-    let s = told_alone state (shut_down (world_at setting state)) in
+    let s = called_alone state (shut_down (stage_at setting state)) in
     record s { state = with_sessions s.state (all_ended s.state.sessions) }
 
 -- what is kept once a connection is closed or gone: the Publish requests that came by it wait no more

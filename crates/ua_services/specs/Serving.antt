@@ -38,11 +38,11 @@ abbrev pub reply_of : Caller → List ℕ → Reply
 reply_of caller body = record { origin = caller.origin; body = body }
 
 -- a request that is answered at once, and changes nothing
-abbrev pub answered : Services → Caller → List ℕ → Serving
-answered state caller body = record { state = state; replies = reply_of caller body ∷ []; occurrences = []; is_refused = false }
+abbrev pub answered_at_once : Services → Caller → List ℕ → Serving
+answered_at_once state caller body = record { state = state; replies = reply_of caller body ∷ []; occurrences = []; is_refused = false }
 
 abbrev pub faulted : Services → Caller → Status → Moment → Serving
-faulted state caller code clock = record (answered state caller (fault_body caller.origin.handle code clock)) { is_refused = true }
+faulted state caller code clock = record (answered_at_once state caller (fault_body caller.origin.handle code clock)) { is_refused = true }
 
 -- every service, which is told the token in its request's header: a request whose fields can't be read is answered by a fault
 abbrev pub served_by : {A : Type 0} → (Setting → Caller → NodeId → A → Services → Serving) → Setting → Caller → NodeId → Services → Result A TakeFault → Serving

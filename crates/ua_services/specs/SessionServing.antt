@@ -5,7 +5,7 @@ use Rattle.ua_types.specs.declared.moment.Moment.{Moment}
 use Rattle.ua_types.specs.declared.status.Status.{Status}
 use Rattle.ua_session.specs.Sessions.{SessionsState, is_spent}
 use Rattle.ua_services.specs.ServicesState.{Services}
-use Rattle.ua_services.specs.Serving.{Occurrence, Serving, answered, faulted}
+use Rattle.ua_services.specs.Serving.{Occurrence, Serving, answered_at_once, faulted}
 use Rattle.ua_services.specs.Serving.Occurrence.{Spent}
 use Rattle.ua_services.specs.declared.caller.Caller.{Caller}
 
@@ -17,7 +17,7 @@ abbrev pub spent_by : SessionsState → List Occurrence
 spent_by sessions = if is_spent sessions then Spent ∷ [] else []
 
 abbrev pub taken : {A : Type 0} → Services → Caller → Moment → List Occurrence → (A → List ℕ) → Result A Status → SessionsState → Serving
-taken state caller clock occurrences body (Ok x) sessions = record (answered (with_sessions state sessions) caller (body x)) { occurrences = occurrences }
+taken state caller clock occurrences body (Ok x) sessions = record (answered_at_once (with_sessions state sessions) caller (body x)) { occurrences = occurrences }
 taken state caller clock occurrences body (Err code) sessions = faulted (with_sessions state sessions) caller code clock
 
 -- a step that the sessions take is answered with this body, or refused with its status

@@ -4,8 +4,8 @@ use Rattle.ua_monitored_items.specs.Items.{ItemsState}
 use Rattle.ua_subscriptions.specs.Ending.{session_ended}
 use Rattle.ua_subscriptions.specs.Making.{timed}
 use Rattle.ua_subscriptions.specs.Scenes.{is_overspent}
-use Rattle.ua_subscriptions.specs.SubscriptionCalls.{SubscriptionsState, Said, told, world_of}
-use Rattle.ua_subscriptions.specs.Tables.{World}
+use Rattle.ua_subscriptions.specs.SubscriptionCalls.{SubscriptionsState, Said, without_answer, stage_of}
+use Rattle.ua_subscriptions.specs.Tables.{Stage}
 use Rattle.ua_subscriptions.specs.declared.round.Round.{Round}
 use Rattle.server_messages.specs.declared.fired.Fired.{Fired}
 use Rattle.server_messages.specs.declared.halt.Halt.{Halt}
@@ -37,22 +37,22 @@ occurrences_of halted round = fires round.rows ++ uncounted halted round
 -- what a call of the subscriptions comes to: the reply to its own request, then those to Publish requests
 abbrev pub called : {A : Type 0} → Services → (A → List Reply) → Said A → Serving
 called state own said = record {
-  state = with_subs state said.state said.outcome.world.items;
-  replies = own said.outcome.answer ++ said.outcome.world.round.replies;
-  occurrences = occurrences_of state.subs.halted said.outcome.world.round;
+  state = with_subs state said.state said.outcome.stage.items;
+  replies = own said.outcome.answer ++ said.outcome.stage.round.replies;
+  occurrences = occurrences_of state.subs.halted said.outcome.stage.round;
   is_refused = false;
 }
 
 -- where a call of the subscriptions begins
-abbrev pub world_at : Setting → Services → World
-world_at setting state = world_of state.subs state.items setting.clock
+abbrev pub stage_at : Setting → Services → Stage
+stage_at setting state = stage_of state.subs state.items setting.clock
 
 abbrev pub no_reply : {A : Type 0} → A → List Reply
 no_reply x = []
 
 -- a call that answers Publish requests alone
-unfoldable pub told_alone : Services → World → Serving
-told_alone state w = called state no_reply (told state.subs w)
+unfoldable pub called_alone : Services → Stage → Serving
+called_alone state w = called state no_reply (without_answer state.subs w)
 
 -- ---- one step of the services behind another
 
@@ -69,7 +69,7 @@ and_then s more = both s (more s.state)
 
 -- a session is over: its subscriptions are deleted with it, or left to their lifetime
 abbrev pub session_over : Setting → Bool → ℕ → Services → Serving
-session_over setting deleting number state = told_alone state (session_ended number deleting (world_at setting state))
+session_over setting deleting number state = called_alone state (session_ended number deleting (stage_at setting state))
 
 -- one more session has timed out, and its subscriptions are left to their lifetime
 unfoldable pub timed_out : Setting → Serving → ℕ → Serving
@@ -80,4 +80,4 @@ all_timed_out setting state numbers = fold (timed_out setting) (nothing_done sta
 
 -- the timers of the subscriptions that are due
 abbrev pub timers_met : Setting → Services → Serving
-timers_met setting state = told_alone state (timed (world_at setting state))
+timers_met setting state = called_alone state (timed (stage_at setting state))

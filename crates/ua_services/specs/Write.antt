@@ -20,7 +20,7 @@ use Rattle.server_messages.specs.declared.setting.Setting.{Setting}
 use Rattle.server_messages.specs.declared.stored.Stored.{Stored}
 use Rattle.ua_services.specs.Operations.{operations_of}
 use Rattle.ua_services.specs.ServicesState.{Services}
-use Rattle.ua_services.specs.Serving.{Serving, Store, answered, faulted}
+use Rattle.ua_services.specs.Serving.{Serving, Store, answered_at_once, faulted}
 use Rattle.ua_services.specs.StatusResults.{statuses_body}
 use Rattle.ua_services.specs.declared.caller.Caller.{Caller}
 
@@ -86,7 +86,7 @@ with_written state writing = record state {
 abbrev pub write_listed : Setting → Caller → Services → Result (List WriteValue) Status → Serving
 write_listed setting caller state (Ok values) =
     let writing = write_of setting.clock state.space.nodes values in
-    record (answered (with_written state writing) caller (statuses_body WRITE_RESPONSE setting caller writing.statuses)) {
+    record (answered_at_once (with_written state writing) caller (statuses_body WRITE_RESPONSE setting caller writing.statuses)) {
       occurrences = map Store (stored_written setting.config.has_store state writing);
     }
 write_listed setting caller state (Err code) = faulted state caller code setting.clock

@@ -4,7 +4,7 @@ ghost use Rattle.std.specs.Prelude.{◌≡◌};
 ghost use Rattle.ua_subscriptions.specs.Publishing.{published};
 ghost use Rattle.ua_services.specs.Publish.{publish_call, publish_meaning};
 ghost use Rattle.ua_services.specs.Serving.{Judges};
-ghost use Rattle.ua_services.specs.SubServing.{told_alone, world_at};
+ghost use Rattle.ua_services.specs.SubServing.{called_alone, stage_at};
 ghost use Rattle.ua_views.specs.Views.{or_none};
 
 use crate::caller::Caller;
@@ -27,7 +27,7 @@ fn taken(
     acknowledgements: ArrayView<'_, SubscriptionAcknowledgement>,
     services: &mut Services,
 ) -> Result<Served, Refusal>
-    ensures { Judges setting.now caller.now result services.new (told_alone services.old (published session (publish_call caller.now) (or_none acknowledgements.entry) (world_at setting.now services.old))) }
+    ensures { Judges setting.now caller.now result services.new (called_alone services.old (published session (publish_call caller.now) (or_none acknowledgements.entry) (stage_at setting.now services.old))) }
 {
     let publish = PublishCall {
         origin: caller.origin,

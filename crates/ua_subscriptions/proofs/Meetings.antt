@@ -8,10 +8,10 @@ use Rattle.ua_monitored_items.specs.Items.{ItemsState}
 use Rattle.ua_subscriptions.specs.declared.session_part.SessionSubscriptions.{SessionSubscriptions}
 use Rattle.ua_subscriptions.specs.declared.subscription.Subscription.{Subscription}
 use Rattle.ua_subscriptions.specs.declared.round.Round.{Round}
-use Rattle.ua_subscriptions.specs.Firing.{fired, is_closed}
-use Rattle.ua_subscriptions.specs.Scenes.{scene, Acts}
+use Rattle.ua_subscriptions.specs.Firing.{fired}
+use Rattle.ua_subscriptions.specs.Scenes.{Scene, scene, Acts}
 use Rattle.ua_subscriptions.specs.Subscriptions.{no_part}
-use Rattle.ua_subscriptions.specs.Tables.{Met, met_in, met_by, one_met, one_met_by, met_found, met_at, subscription_at, part_at, part_of}
+use Rattle.ua_subscriptions.specs.Tables.{part_of, scene_in, set_part}
 
 module _ {K X : Type 0} (test : K → Bool) where
   absent_by : (b : Bool) (e : K × X) (es : List (K × X)) (v : X) → (lookup test es ≡ None → set_value test es v ≡ es) → cond b (Some e.1) (lookup test es) ≡ None → cond b ((e.0, v) ∷ es) (e ∷ set_value test es v) ≡ e ∷ es
@@ -23,32 +23,19 @@ module _ {K X : Type 0} (test : K → Bool) where
   set_absent [] v h = refl
   set_absent (e ∷ es) v h = absent_by (test e.0) e es v (set_absent es v) h
 
--- a row at a subscription whose session has nothing yet
-pub met_absent : (round : Round) (s : Subscription) (k : ℕ) (sessions : List (ℕ × SessionSubscriptions)) (items : ItemsState) (round2 : Round) (s2 : Subscription) (part2 : SessionSubscriptions) (items2 : ItemsState) →
-    s.session ≡ Some k → lookup (is_at (nat_cmp k)) sessions ≡ None → scene round2 s2 part2 items2 ≡ fired (scene round s no_part items) →
-    record { round = round2; subscription = s2; sessions = sessions; items = items2 } ≡ met_in round s sessions items
-met_absent round s k sessions items round2 s2 part2 items2 is none left =
-    let parts : part_at k sessions ≡ no_part = ap (λ (o : Option SessionSubscriptions). unwrap_or o no_part) none in
-    ap (λ xs. record { round = round2; subscription = s2; sessions = xs; items = items2 }) (sym (set_absent (is_at (nat_cmp k)) sessions part2 none))
-    ∙ ap (λ c. met_by c (Some k) sessions) left
-    ∙ ap (λ p. met_by (fired (scene round s p items)) (Some k) sessions) (sym parts)
-    ∙ ap (λ o. met_by (fired (scene round s (part_of o sessions) items)) o sessions) (sym is)
+-- ---- a row at a subscription whose session has nothing yet
 
-pub absent_acts : (r : Result Unit Halt) (round : Round) (s : Subscription) (k : ℕ) (sessions sessions2 : List (ℕ × SessionSubscriptions)) (items : ItemsState) (none_yet : SessionSubscriptions) (round2 : Round) (s2 : Subscription) (part2 : SessionSubscriptions) (items2 : ItemsState) →
-    none_yet ≡ no_part → s.session ≡ Some k → lookup (is_at (nat_cmp k)) sessions ≡ None → sessions2 ≡ sessions → Acts r (scene round2 s2 part2 items2) (fired (scene round s none_yet items)) →
-    OnOk r (record { round = round2; subscription = s2; sessions = sessions2; items = items2 } ≡ met_in round s sessions items)
-absent_acts (Ok done) round s k sessions sessions2 items none_yet round2 s2 part2 items2 new is none same left =
-    ap (λ xs. record { round = round2; subscription = s2; sessions = xs; items = items2 }) same
-    ∙ met_absent round s k sessions items round2 s2 part2 items2 is none (left ∙ ap (λ p. fired (scene round s p items)) new)
-absent_acts (Err e) round s k sessions sessions2 items none_yet round2 s2 part2 items2 new is none same left = tt
+pub absent_scene : (r : Result Unit Halt) (round : Round) (s : Subscription) (k : ℕ) (sessions : List (ℕ × SessionSubscriptions)) (items : ItemsState) (none_yet : SessionSubscriptions) (round2 : Round) (s2 : Subscription) (part2 : SessionSubscriptions) (items2 : ItemsState) →
+    none_yet ≡ no_part → s.session ≡ Some k → lookup (is_at (nat_cmp k)) sessions ≡ None → Acts r (scene round2 s2 part2 items2) (fired (scene round s none_yet items)) →
+    let after = fired (scene_in round s sessions items) in OnOk r (scene round2 s2 after.part items2 ≡ after)
+absent_scene (Ok done) round s k sessions items none_yet round2 s2 part2 items2 new is none left =
+    let parts : part_of s.session sessions ≡ none_yet = ap (λ (o : Option ℕ). part_of o sessions) is ∙ ap (λ (o : Option SessionSubscriptions). unwrap_or o no_part) none ∙ sym new in
+    let whole : scene round2 s2 part2 items2 ≡ fired (scene_in round s sessions items) = left ∙ ap (λ p. fired (scene round s p items)) (sym parts) in
+    ap (λ (c : Scene). scene round2 s2 c.part items2) (sym whole) ∙ whole
+absent_scene (Err e) round s k sessions items none_yet round2 s2 part2 items2 new is none left = tt
 
--- a row at a subscription under its number
-pub one_met_found : (round : Round) (s : Subscription) (subscriptions : List (ℕ × Subscription)) (sessions : List (ℕ × SessionSubscriptions)) (items : ItemsState) (m : Met) (after : List (ℕ × Subscription)) (closed : Bool) →
-    subscription_at round.own subscriptions ≡ Some s → m ≡ met_in round s sessions items →
-    after ≡ set_value (is_at (nat_cmp round.own)) subscriptions m.subscription → closed ≡ is_closed m.subscription →
-    one_met m.round after m.sessions m.items closed ≡ met_at round subscriptions sessions items
-one_met_found round s subscriptions sessions items m after closed found is set close =
-    ap (λ xs. one_met m.round xs m.sessions m.items closed) set
-    ∙ ap (λ b. one_met m.round (set_value (is_at (nat_cmp round.own)) subscriptions m.subscription) m.sessions m.items b) close
-    ∙ ap (λ n. one_met_by subscriptions round.own n) is
-    ∙ ap (λ o. met_found round subscriptions sessions items o) (sym found)
+pub absent_part : (r : Result Unit Halt) (session : Option ℕ) (k : ℕ) (sessions sessions2 : List (ℕ × SessionSubscriptions)) (part : SessionSubscriptions) →
+    session ≡ Some k → lookup (is_at (nat_cmp k)) sessions ≡ None → sessions2 ≡ sessions → OnOk r (sessions2 ≡ set_part session sessions part)
+absent_part (Ok done) session k sessions sessions2 part is none same =
+    same ∙ sym (set_absent (is_at (nat_cmp k)) sessions part none) ∙ ap (λ (o : Option ℕ). set_part o sessions part) (sym is)
+absent_part (Err e) session k sessions sessions2 part is none same = tt

@@ -23,11 +23,11 @@ use Rattle.ua_subscriptions.specs.Firing.{fired}
 use Rattle.ua_subscriptions.specs.Making.{refused_one, added, with_number, modified, republished, timed, kept_at}
 use Rattle.ua_subscriptions.specs.Named.{Outcome, outcome, is_own, own_met, named_one, named_all, all_refused, without_requests, has_none, deleted}
 use Rattle.ua_subscriptions.specs.Owing.{AllBy, QueuedBy, RepliedTo, OwesOnly}
-use Rattle.ua_subscriptions.specs.Publishing.{acknowledged_all, note_of, part_without_note, with_results, asked_by, asked_numbers, answered_to, answered_by, published}
+use Rattle.ua_subscriptions.specs.Publishing.{acknowledged_all, note_of, part_without_note, with_results, asked_by, asked_numbers, answered_to, noted_or_answered, published}
 use Rattle.ua_subscriptions.specs.Ranks.{due_numbers}
 use Rattle.ua_subscriptions.specs.Scenes.{scene}
 use Rattle.ua_subscriptions.specs.Subscriptions.{unborn, no_part}
-use Rattle.ua_subscriptions.specs.Tables.{World, with_call, all_met, part_at}
+use Rattle.ua_subscriptions.specs.Tables.{Stage, with_call, all_met, part_at}
 use Rattle.ua_subscriptions.proofs.Choosing.{either}
 use Rattle.ua_subscriptions.proofs.OwingRows.{all_append, calls_append, fired_only, one_more}
 use Rattle.ua_subscriptions.proofs.OwingTables.{set_only, removed_only, inserted_only, part_only, met_only, all_met_only}
@@ -35,15 +35,15 @@ use Rattle.ua_subscriptions.proofs.OwingTables.{set_only, removed_only, inserted
 module _ (Such : ℕ → Type 0) where
   -- ---- subscriptions that are named
 
-  pub own_met_only : (session : ℕ) (call : Call) (w : World) (number : ℕ) → OwesOnly Such w → OwesOnly Such (own_met session call w number).world
+  pub own_met_only : (session : ℕ) (call : Call) (w : Stage) (number : ℕ) → OwesOnly Such w → OwesOnly Such (own_met session call w number).stage
   unfolding own_met
-  own_met_only session call w number h = either (λ (o : Outcome Status). OwesOnly Such o.world) (is_own w.table session number) _ _ (met_only Such w number call h) h
+  own_met_only session call w number h = either (λ (o : Outcome Status). OwesOnly Such o.stage) (is_own w.table session number) _ _ (met_only Such w number call h) h
 
-  named_fold : (session : ℕ) (call : Call) (numbers : List ℕ) (before : Outcome (List Status)) → OwesOnly Such before.world → OwesOnly Such (fold (named_one session call) before numbers).world
+  named_fold : (session : ℕ) (call : Call) (numbers : List ℕ) (before : Outcome (List Status)) → OwesOnly Such before.stage → OwesOnly Such (fold (named_one session call) before numbers).stage
   named_fold session call [] before h = h
-  named_fold session call (number ∷ numbers) before h = named_fold session call numbers (named_one session call before number) (own_met_only session call before.world number h)
+  named_fold session call (number ∷ numbers) before h = named_fold session call numbers (named_one session call before number) (own_met_only session call before.stage number h)
 
-  pub named_only : (session : ℕ) (call : Call) (w : World) (numbers : List ℕ) → OwesOnly Such w → OwesOnly Such (named_all session call w numbers).world
+  pub named_only : (session : ℕ) (call : Call) (w : Stage) (numbers : List ℕ) → OwesOnly Such w → OwesOnly Such (named_all session call w numbers).stage
   named_only session call w numbers h = named_fold session call numbers (outcome [] w) h
 
   -- ---- requests that wait in vain
@@ -52,7 +52,7 @@ module _ (Such : ℕ → Type 0) where
   all_refused_to clock code [] h = tt
   all_refused_to clock code (call ∷ calls) h = (h.0, all_refused_to clock code calls h.1)
 
-  pub all_refused_only : (session : ℕ) (code : Status) (w : World) → OwesOnly Such w → OwesOnly Such (all_refused session code w)
+  pub all_refused_only : (session : ℕ) (code : Status) (w : Stage) → OwesOnly Such w → OwesOnly Such (all_refused session code w)
   unfolding all_refused
   all_refused_only session code w h =
       let part : SessionSubscriptions = part_at session w.table.sessions in
@@ -64,23 +64,23 @@ module _ (Such : ℕ → Type 0) where
         queued = set_only Such session w.table.sessions (without_requests part) h.queued tt;
       }
 
-  pub deleted_only : (session : ℕ) (w : World) (numbers : List ℕ) → OwesOnly Such w → OwesOnly Such (deleted session w numbers).world
+  pub deleted_only : (session : ℕ) (w : Stage) (numbers : List ℕ) → OwesOnly Such w → OwesOnly Such (deleted session w numbers).stage
   unfolding deleted
   deleted_only session w numbers h =
-      let named = (named_all session Delete w numbers).world in
+      let named = (named_all session Delete w numbers).stage in
       let after = named_only session Delete w numbers h in
       either (OwesOnly Such) (has_none session named.table) _ _ (all_refused_only session status.BAD_NO_SUBSCRIPTION named after) after
 
   -- ---- subscriptions that are made and changed
 
-  pub refused_one_only : (session : ℕ) (asked : Settings) (enabled : Bool) (w : World) → OwesOnly Such w → OwesOnly Such (refused_one session asked enabled w)
+  pub refused_one_only : (session : ℕ) (asked : Settings) (enabled : Bool) (w : Stage) → OwesOnly Such w → OwesOnly Such (refused_one session asked enabled w)
   unfolding refused_one
   refused_one_only session asked enabled w h =
       let c = scene (with_call w.round 0 (Create true asked enabled)) (unborn session) no_part w.items in
       let after = fired_only Such c (record { round = record { replies = h.round.replies; asked = h.round.asked }; requests = tt }) in
       record { round = after.round; queued = h.queued }
 
-  pub added_only : (session number : ℕ) (asked : Settings) (enabled : Bool) (w : World) → OwesOnly Such w → OwesOnly Such (added session number asked enabled w)
+  pub added_only : (session number : ℕ) (asked : Settings) (enabled : Bool) (w : Stage) → OwesOnly Such w → OwesOnly Such (added session number asked enabled w)
   unfolding added
   added_only session number asked enabled w h =
       let part : SessionSubscriptions = part_at session w.table.sessions in
@@ -91,30 +91,30 @@ module _ (Such : ℕ → Type 0) where
         queued = inserted_only Such session (remove_entry (is_at (nat_cmp session)) w.table.sessions) (with_number number (fired c).part) (removed_only Such session w.table.sessions h.queued) after.requests;
       }
 
-  pub modified_only : (session number : ℕ) (asked : Settings) (w : World) → OwesOnly Such w → OwesOnly Such (modified session number asked w).world
+  pub modified_only : (session number : ℕ) (asked : Settings) (w : Stage) → OwesOnly Such w → OwesOnly Such (modified session number asked w).stage
   unfolding modified
-  modified_only session number asked w h = either (λ (o : Outcome (Result Revised Status)). OwesOnly Such o.world) (is_own w.table session number) _ _ (met_only Such w number (Modify asked) h) h
+  modified_only session number asked w h = either (λ (o : Outcome (Result Revised Status)). OwesOnly Such o.stage) (is_own w.table session number) _ _ (met_only Such w number (Modify asked) h) h
 
-  pub republished_only : (session number wanted : ℕ) (w : World) → OwesOnly Such w → OwesOnly Such (republished session number wanted w).world
+  pub republished_only : (session number wanted : ℕ) (w : Stage) → OwesOnly Such w → OwesOnly Such (republished session number wanted w).stage
   unfolding republished
-  republished_only session number wanted w h = either (λ (o : Outcome (Result (List ℕ) Status)). OwesOnly Such o.world) (is_own w.table session number) _ _ (met_only Such w number (Republish (is_some (kept_at number wanted w.table))) h) h
+  republished_only session number wanted w h = either (λ (o : Outcome (Result (List ℕ) Status)). OwesOnly Such o.stage) (is_own w.table session number) _ _ (met_only Such w number (Republish (is_some (kept_at number wanted w.table))) h) h
 
-  pub timed_only : (w : World) → OwesOnly Such w → OwesOnly Such (timed w)
+  pub timed_only : (w : Stage) → OwesOnly Such w → OwesOnly Such (timed w)
   timed_only w h = all_met_only Such Timer (due_numbers w.round.clock w.table.subscriptions) w h
 
   -- ---- Publish
 
-  answered_to_only : (numbers : List ℕ) (call : PublishCall) (w : World) → Such call.origin.conn → OwesOnly Such w → OwesOnly Such (answered_to numbers call w)
+  answered_to_only : (numbers : List ℕ) (call : PublishCall) (w : Stage) → Such call.origin.conn → OwesOnly Such w → OwesOnly Such (answered_to numbers call w)
   unfolding answered_to
   answered_to_only [] call w a h = record { round = record { replies = one_more Such w.round.replies _ h.round.replies a; asked = h.round.asked }; queued = h.queued }
   answered_to_only (n ∷ ns) call w a h =
       all_met_only Such Publish (asked_numbers w (n ∷ ns)) (asked_by w call) (record { round = record { replies = h.round.replies; asked = a }; queued = h.queued })
 
-  answered_by_only : (note : Option TimeoutNote) (session : ℕ) (call : PublishCall) (w : World) → Such call.origin.conn → OwesOnly Such w → OwesOnly Such (answered_by note session call w)
+  answered_by_only : (note : Option TimeoutNote) (session : ℕ) (call : PublishCall) (w : Stage) → Such call.origin.conn → OwesOnly Such w → OwesOnly Such (noted_or_answered note session call w)
   answered_by_only (Some note) session call w a h = record { round = record { replies = one_more Such w.round.replies _ h.round.replies a; asked = h.round.asked }; queued = h.queued }
   answered_by_only None session call w a h = answered_to_only (part_at session w.table.sessions).numbers call w a h
 
-  pub published_only : (session : ℕ) (call : PublishCall) (acks : List SubscriptionAcknowledgement) (w : World) → Such call.origin.conn → OwesOnly Such w → OwesOnly Such (published session call acks w)
+  pub published_only : (session : ℕ) (call : PublishCall) (acks : List SubscriptionAcknowledgement) (w : Stage) → Such call.origin.conn → OwesOnly Such w → OwesOnly Such (published session call acks w)
   unfolding published
   published_only session call acks w a h =
       let part : SessionSubscriptions = part_at session w.table.sessions in
@@ -127,10 +127,10 @@ module _ (Such : ℕ → Type 0) where
 
   -- ---- the end of a session
 
-  without_session_only : (session : ℕ) (w : World) → OwesOnly Such w → OwesOnly Such (without_session session w)
+  without_session_only : (session : ℕ) (w : Stage) → OwesOnly Such w → OwesOnly Such (without_session session w)
   without_session_only session w h = record { round = h.round; queued = removed_only Such session w.table.sessions h.queued }
 
-  pub session_ended_only : (session : ℕ) (deleting : Bool) (w : World) → OwesOnly Such w → OwesOnly Such (session_ended session deleting w)
+  pub session_ended_only : (session : ℕ) (deleting : Bool) (w : Stage) → OwesOnly Such w → OwesOnly Such (session_ended session deleting w)
   unfolding session_ended
   session_ended_only session deleting w h =
       let numbers = (part_at session w.table.sessions).numbers in
@@ -143,7 +143,7 @@ module _ (Such : ℕ → Type 0) where
   all_requests_by [] h = tt
   all_requests_by (e ∷ es) h = calls_append Such e.1.requests (all_requests (values_of es)) h.0 (all_requests_by es h.1)
 
-  all_left_only : (code : Status) (w : World) → OwesOnly Such w → OwesOnly Such (all_left code w)
+  all_left_only : (code : Status) (w : Stage) → OwesOnly Such w → OwesOnly Such (all_left code w)
   all_left_only code w h =
       let calls = all_requests (values_of w.table.sessions) in
       record {
@@ -154,7 +154,7 @@ module _ (Such : ℕ → Type 0) where
         queued = tt;
       }
 
-  pub shut_down_only : (w : World) → OwesOnly Such w → OwesOnly Such (shut_down w)
+  pub shut_down_only : (w : Stage) → OwesOnly Such w → OwesOnly Such (shut_down w)
   unfolding shut_down
   shut_down_only w h =
       let numbers = keys_of w.table.subscriptions in

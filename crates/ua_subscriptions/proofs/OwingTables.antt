@@ -3,16 +3,13 @@ use Rattle.std.proofs.Common.{ℕ, List, [], ◌∷◌, Option, Some, None}
 use Rattle.std.specs.BTreeMap.{is_at, insert_entry}
 use Rattle.std.specs.Map.{set_value, remove_entry}
 use Rattle.std.specs.Ordering.{nat_cmp}
-use Rattle.ua_monitored_items.specs.Items.{ItemsState}
 use Rattle.ua_subscriptions.specs.declared.call.Call.{Call}
 use Rattle.ua_subscriptions.specs.declared.session_part.SessionSubscriptions.{SessionSubscriptions}
 use Rattle.ua_subscriptions.specs.declared.subscription.Subscription.{Subscription}
-use Rattle.ua_subscriptions.specs.declared.round.Round.{Round}
 use Rattle.ua_subscriptions.specs.Firing.{fired}
 use Rattle.ua_subscriptions.specs.Owing.{AllBy, QueuedBy, RoundOwesOnly, OwesOnly}
-use Rattle.ua_subscriptions.specs.Scenes.{scene}
 use Rattle.ua_subscriptions.specs.Subscriptions.{no_part}
-use Rattle.ua_subscriptions.specs.Tables.{World, OneMet, met_found, with_call, met, all_met, part_at, part_of, set_part, subscription_at}
+use Rattle.ua_subscriptions.specs.Tables.{Stage, scene_at, met_by, met, all_met, part_at, part_of, set_part, subscription_at}
 use Rattle.ua_subscriptions.proofs.MapEntries.{entries_removed, entries_set, entries_found, entries_inserted}
 use Rattle.ua_subscriptions.proofs.OwingRows.{fired_only}
 
@@ -44,26 +41,18 @@ module _ (Such : ℕ → Type 0) where
 
   -- ---- what comes to subscriptions under their numbers
 
-  record OneOwesOnly (m : OneMet) : Type 0 where
-    round : RoundOwesOnly Such m.round
-    queued : QueuedBy Such m.sessions
+  by_only : (w : Stage) (own : ℕ) (call : Call) (o : Option Subscription) → OwesOnly Such w → OwesOnly Such (met_by w own call o)
+  by_only w own call None h = record { round = record { replies = h.round.replies; asked = h.round.asked }; queued = h.queued }
+  by_only w own call (Some s) h =
+      let c = scene_at w own call s in
+      let before : RoundOwesOnly Such c.round = record { replies = h.round.replies; asked = h.round.asked } in
+      let after = fired_only Such c (record { round = before; requests = part_of_only s.session w.table.sessions h.queued }) in
+      record { round = after.round; queued = set_part_only s.session w.table.sessions (fired c).part h.queued after.requests }
 
-  found_only : (round : Round) (subscriptions : List (ℕ × Subscription)) (sessions : List (ℕ × SessionSubscriptions)) (items : ItemsState) (s : Option Subscription) → RoundOwesOnly Such round → QueuedBy Such sessions →
-      OneOwesOnly (met_found round subscriptions sessions items s)
-  found_only round subscriptions sessions items None h g = record { round = h; queued = g }
-  found_only round subscriptions sessions items (Some s) h g =
-      let c = scene round s (part_of s.session sessions) items in
-      let after = fired_only Such c (record { round = h; requests = part_of_only s.session sessions g }) in
-      record { round = after.round; queued = set_part_only s.session sessions (fired c).part g after.requests }
-
-  pub met_only : (w : World) (own : ℕ) (call : Call) → OwesOnly Such w → OwesOnly Such (met w own call)
+  pub met_only : (w : Stage) (own : ℕ) (call : Call) → OwesOnly Such w → OwesOnly Such (met w own call)
   unfolding met
-  met_only w own call h =
-      let round = with_call w.round own call in
-      let before : RoundOwesOnly Such round = record { replies = h.round.replies; asked = h.round.asked } in
-      let m = found_only round w.table.subscriptions w.table.sessions w.items (subscription_at own w.table.subscriptions) before h.queued in
-      record { round = m.round; queued = m.queued }
+  met_only w own call h = by_only w own call (subscription_at own w.table.subscriptions) h
 
-  pub all_met_only : (call : Call) (numbers : List ℕ) (w : World) → OwesOnly Such w → OwesOnly Such (all_met call w numbers)
+  pub all_met_only : (call : Call) (numbers : List ℕ) (w : Stage) → OwesOnly Such w → OwesOnly Such (all_met call w numbers)
   all_met_only call [] w h = h
   all_met_only call (number ∷ numbers) w h = all_met_only call numbers (met w number call) (met_only w number call h)

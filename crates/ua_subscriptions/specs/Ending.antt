@@ -10,15 +10,15 @@ use Rattle.ua_subscriptions.specs.declared.publish_call.PublishCall.{PublishCall
 use Rattle.ua_subscriptions.specs.declared.session_part.SessionSubscriptions.{SessionSubscriptions}
 use Rattle.ua_subscriptions.specs.Answers.{refused_of}
 use Rattle.ua_subscriptions.specs.Named.{all_refused, with_replies}
-use Rattle.ua_subscriptions.specs.Tables.{TableState, World, all_met, part_at}
+use Rattle.ua_subscriptions.specs.Tables.{TableState, Stage, all_met, part_at}
 
-abbrev pub without_session : ℕ → World → World
+abbrev pub without_session : ℕ → Stage → Stage
 without_session session w =
     let table : TableState = w.table in
     record w { table = record table { sessions = remove_entry (is_at (nat_cmp session)) table.sessions } }
 
 -- its subscriptions see the end, by rising number; then its requests that wait are answered, and nothing of it is left
-unfoldable pub session_ended : ℕ → Bool → World → World
+unfoldable pub session_ended : ℕ → Bool → Stage → Stage
 session_ended session deleting w =
     without_session session (all_refused session status.BAD_SESSION_CLOSED (all_met (SessionEnd deleting) w (part_at session w.table.sessions).numbers))
 
@@ -45,7 +45,7 @@ all_requests [] = []
 all_requests (part ∷ parts) = part.requests ++ all_requests parts
 
 -- all requests that wait are answered with a fault, by the rising number of their sessions; and nothing is left of any session
-abbrev pub all_left : Status → World → World
+abbrev pub all_left : Status → Stage → Stage
 all_left code w =
     let table : TableState = w.table in
     record w {
@@ -55,5 +55,5 @@ all_left code w =
 
 -- every live subscription sees the shutdown, by rising number, be it of a session or of none; then the requests that wait
 -- are answered, and nothing of the sessions is left
-unfoldable pub shut_down : World → World
+unfoldable pub shut_down : Stage → Stage
 shut_down w = all_left status.BAD_SHUTDOWN (all_met Shutdown w (keys_of w.table.subscriptions))

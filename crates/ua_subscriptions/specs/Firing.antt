@@ -44,8 +44,8 @@ abbrev pub fired_in : Scene → Scene → Fired
 fired_in c d = record { subscription = d.round.own; event = event_of c.round.call; before = before_of c; row = row_of c; after = vars_after (before_of c) d }
 
 -- a row is told of; one that closes its subscription takes it from its session
-abbrev pub told : Fired → Scene → Scene
-told f d =
+abbrev pub with_row : Fired → Scene → Scene
+with_row f d =
     let round : Round = d.round in
     let part : SessionSubscriptions = d.part in
     record d {
@@ -55,4 +55,4 @@ told f d =
 
 -- the scene after the row that the table chooses
 unfoldable pub fired : Scene → Scene
-fired c = told (fired_in c (row_done (row_of c) c)) (row_done (row_of c) c)
+fired c = with_row (fired_in c (row_done (row_of c) c)) (row_done (row_of c) c)

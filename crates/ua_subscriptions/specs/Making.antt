@@ -21,23 +21,23 @@ use Rattle.ua_subscriptions.specs.Ranks.{due_numbers}
 use Rattle.ua_subscriptions.specs.Scenes.{Scene, scene}
 use Rattle.ua_subscriptions.specs.Settings.{revised_keep_alive_count, revised_lifetime_count}
 use Rattle.ua_subscriptions.specs.Subscriptions.{unborn, no_part}
-use Rattle.ua_subscriptions.specs.Tables.{TableState, World, with_call, met, all_met, part_at, subscription_at}
+use Rattle.ua_subscriptions.specs.Tables.{TableState, Stage, with_call, met, all_met, part_at, subscription_at}
 
 -- ---- CreateSubscription
 
 abbrev pub revised_of : Settings → Revised
 revised_of asked = record { keep_alive_count = revised_keep_alive_count asked.keep_alive_count; lifetime_count = revised_lifetime_count (revised_keep_alive_count asked.keep_alive_count) asked.lifetime_count }
 
-abbrev pub refused_scene : ℕ → Settings → Bool → World → Scene
+abbrev pub refused_scene : ℕ → Settings → Bool → Stage → Scene
 refused_scene session asked enabled w = fired (scene (with_call w.round 0 (Create true asked enabled)) (unborn session) no_part w.items)
 
 -- one is refused: only the row is told
-unfoldable pub refused_one : ℕ → Settings → Bool → World → World
+unfoldable pub refused_one : ℕ → Settings → Bool → Stage → Stage
 refused_one session asked enabled w =
     let c = refused_scene session asked enabled w in
     record w { round = c.round; items = c.items }
 
-abbrev pub added_scene : ℕ → ℕ → Settings → Bool → World → Scene
+abbrev pub added_scene : ℕ → ℕ → Settings → Bool → Stage → Scene
 added_scene session number asked enabled w =
     fired (scene (with_call w.round number (Create false asked enabled)) (unborn session) (part_at session w.table.sessions) w.items)
 
@@ -45,7 +45,7 @@ abbrev pub with_number : ℕ → SessionSubscriptions → SessionSubscriptions
 with_number number part = record part { numbers = insert_key nat_cmp part.numbers number }
 
 -- one begins, under a number
-unfoldable pub added : ℕ → ℕ → Settings → Bool → World → World
+unfoldable pub added : ℕ → ℕ → Settings → Bool → Stage → Stage
 added session number asked enabled w =
     let c = added_scene session number asked enabled w in
     record {
@@ -59,7 +59,7 @@ added session number asked enabled w =
 
 -- ---- ModifySubscription
 
-unfoldable pub modified : ℕ → ℕ → Settings → World → Outcome (Result Revised Status)
+unfoldable pub modified : ℕ → ℕ → Settings → Stage → Outcome (Result Revised Status)
 modified session number asked w =
     if is_own w.table session number
     then outcome (Ok (revised_of asked)) (met w number (Modify asked))
@@ -71,15 +71,15 @@ abbrev pub bytes_of : Option KeptMessage → Option (List ℕ)
 bytes_of None = None
 bytes_of (Some message) = Some message.bytes
 
-abbrev pub kept_by : ℕ → Option Subscription → Option (List ℕ)
-kept_by wanted None = None
-kept_by wanted (Some s) = bytes_of (find (has_number wanted) s.kept)
+abbrev pub kept_bytes_by : ℕ → Option Subscription → Option (List ℕ)
+kept_bytes_by wanted None = None
+kept_bytes_by wanted (Some s) = bytes_of (find (has_number wanted) s.kept)
 
 -- the message of a subscription with a number, as it was first sent
 abbrev pub kept_at : ℕ → ℕ → TableState → Option (List ℕ)
-kept_at number wanted table = kept_by wanted (subscription_at number table.subscriptions)
+kept_at number wanted table = kept_bytes_by wanted (subscription_at number table.subscriptions)
 
-unfoldable pub republished : ℕ → ℕ → ℕ → World → Outcome (Result (List ℕ) Status)
+unfoldable pub republished : ℕ → ℕ → ℕ → Stage → Outcome (Result (List ℕ) Status)
 republished session number wanted w =
     let kept = kept_at number wanted w.table in
     if is_own w.table session number
@@ -89,5 +89,5 @@ republished session number wanted w =
 -- ---- the timers
 
 -- those that are due fire the row of their timer, the best first
-abbrev pub timed : World → World
+abbrev pub timed : Stage → Stage
 timed w = all_met Timer w (due_numbers w.round.clock w.table.subscriptions)

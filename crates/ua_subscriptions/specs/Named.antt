@@ -16,21 +16,21 @@ use Rattle.ua_subscriptions.specs.declared.round.Round.{Round}
 use Rattle.ua_subscriptions.specs.Answers.{refused_of}
 use Rattle.ua_subscriptions.specs.Scenes.{is_overspent}
 use Rattle.ua_subscriptions.specs.Subscriptions.{is_of}
-use Rattle.ua_subscriptions.specs.Tables.{TableState, World, met, part_at, subscription_at}
+use Rattle.ua_subscriptions.specs.Tables.{TableState, Stage, met, part_at, subscription_at}
 
--- what a call answers, and the world that it leaves
+-- what a call answers, and the stage that it leaves
 pub record Outcome (A : Type 0) : Type 0 where
   pub answer : A
-  pub world : World
+  pub stage : Stage
 
-abbrev pub outcome : {A : Type 0} → A → World → Outcome A
-outcome x w = record { answer = x; world = w }
+abbrev pub outcome : {A : Type 0} → A → Stage → Outcome A
+outcome x w = record { answer = x; stage = w }
 
 -- a call comes to what is said of it, unless memory ran out, or messages can't be counted any more
-abbrev pub Comes : {A : Type 0} → Result A Halt → World → Outcome A → Type 0
+abbrev pub Comes : {A : Type 0} → Result A Halt → Stage → Outcome A → Type 0
 Comes (Ok x) new said = outcome x new ≡ said
 Comes (Err Memory) new said = ⊤
-Comes (Err Exhausted) new said = is_overspent said.world.round ≡ true
+Comes (Err Exhausted) new said = is_overspent said.stage.round ≡ true
 
 -- ---- subscriptions that are named
 
@@ -43,17 +43,17 @@ abbrev pub is_own : TableState → ℕ → ℕ → Bool
 is_own table session number = is_own_in session (subscription_at number table.subscriptions)
 
 -- it comes to the subscription that is named, if it is the session's
-unfoldable pub own_met : ℕ → Call → World → ℕ → Outcome Status
+unfoldable pub own_met : ℕ → Call → Stage → ℕ → Outcome Status
 own_met session call w number =
     if is_own w.table session number then outcome status.GOOD (met w number call) else outcome status.BAD_SUBSCRIPTION_ID_INVALID w
 
 abbrev pub named_one : ℕ → Call → Outcome (List Status) → ℕ → Outcome (List Status)
 named_one session call before number =
-    let one = own_met session call before.world number in
-    outcome (before.answer ++ one.answer ∷ []) one.world
+    let one = own_met session call before.stage number in
+    outcome (before.answer ++ one.answer ∷ []) one.stage
 
 -- it comes to each that is named, one after the other
-abbrev pub named_all : ℕ → Call → World → List ℕ → Outcome (List Status)
+abbrev pub named_all : ℕ → Call → Stage → List ℕ → Outcome (List Status)
 named_all session call w numbers = fold (named_one session call) (outcome [] w) numbers
 
 -- ---- requests that wait in vain
@@ -71,7 +71,7 @@ abbrev pub sessions_without_requests : ℕ → List (ℕ × SessionSubscriptions
 sessions_without_requests session sessions = set_value (is_at (nat_cmp session)) sessions (without_requests (part_at session sessions))
 
 -- all requests of a session that wait are answered with a fault
-unfoldable pub all_refused : ℕ → Status → World → World
+unfoldable pub all_refused : ℕ → Status → Stage → Stage
 all_refused session code w =
     let table : TableState = w.table in
     record w {
@@ -88,11 +88,11 @@ is_none (number ∷ numbers) = false
 abbrev pub has_none : ℕ → TableState → Bool
 has_none session table = is_none (part_at session table.sessions).numbers
 
-abbrev pub if_none_left : ℕ → World → World
+abbrev pub if_none_left : ℕ → Stage → Stage
 if_none_left session w = if has_none session w.table then all_refused session status.BAD_NO_SUBSCRIPTION w else w
 
 -- those that are named go; where the session has none left, the requests that wait are answered
-unfoldable pub deleted : ℕ → World → List ℕ → Outcome (List Status)
+unfoldable pub deleted : ℕ → Stage → List ℕ → Outcome (List Status)
 deleted session w numbers =
     let named = named_all session Delete w numbers in
-    outcome named.answer (if_none_left session named.world)
+    outcome named.answer (if_none_left session named.stage)

@@ -6,7 +6,7 @@ use Rattle.ua_subscriptions.specs.declared.publish_call.PublishCall.{PublishCall
 use Rattle.ua_subscriptions.specs.declared.session_part.SessionSubscriptions.{SessionSubscriptions}
 use Rattle.ua_subscriptions.specs.declared.round.Round.{Round}
 use Rattle.ua_subscriptions.specs.SubscriptionCalls.{Said}
-use Rattle.ua_subscriptions.specs.Tables.{World}
+use Rattle.ua_subscriptions.specs.Tables.{Stage}
 
 -- each request came by such a connection
 abbrev pub AllBy : (ℕ → Type 0) → List PublishCall → Type 0
@@ -31,11 +31,11 @@ pub record RoundOwesOnly (Such : ℕ → Type 0) (round : Round) : Type 0 where
   pub asked : AskedBy Such round.asked
 
 -- every connection that is answered, or waits for a reply, is such a one
-pub record OwesOnly (Such : ℕ → Type 0) (w : World) : Type 0 where
+pub record OwesOnly (Such : ℕ → Type 0) (w : Stage) : Type 0 where
   pub round : RoundOwesOnly Such w.round
   pub queued : QueuedBy Such w.table.sessions
 
 -- a call answers such connections alone, and leaves such alone waiting
 pub record SaysOnly {A : Type 0} (Such : ℕ → Type 0) (s : Said A) : Type 0 where
   pub queued : QueuedBy Such s.state.table.sessions
-  pub replies : RepliedTo Such s.outcome.world.round.replies
+  pub replies : RepliedTo Such s.outcome.stage.round.replies

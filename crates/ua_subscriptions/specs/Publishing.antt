@@ -22,7 +22,7 @@ use Rattle.ua_subscriptions.specs.Queues.{first_of}
 use Rattle.ua_subscriptions.specs.Ranks.{waiting_of}
 use Rattle.ua_subscriptions.specs.Scenes.{with_reply}
 use Rattle.ua_subscriptions.specs.Subscriptions.{is_of}
-use Rattle.ua_subscriptions.specs.Tables.{TableState, World, all_met, part_at, subscription_at}
+use Rattle.ua_subscriptions.specs.Tables.{TableState, Stage, all_met, part_at, subscription_at}
 
 -- ---- acknowledgements
 
@@ -90,10 +90,10 @@ note_told round call note = with_reply round (published_of round.clock call note
 
 -- ---- who answers
 
-abbrev pub with_round : World → Round → World
+abbrev pub with_round : Stage → Round → Stage
 with_round w round = record w { round = round }
 
-abbrev pub asked_by : World → PublishCall → World
+abbrev pub asked_by : Stage → PublishCall → Stage
 asked_by w call = let round : Round = w.round in with_round w (record round { asked = Some call })
 
 -- the best of some subscriptions that waits alone, or else all of them
@@ -101,29 +101,29 @@ abbrev pub best_or_all : Option Rank → List ℕ → List ℕ
 best_or_all (Some rank) numbers = rank.number ∷ []
 best_or_all None numbers = numbers
 
-abbrev pub asked_numbers : World → List ℕ → List ℕ
+abbrev pub asked_numbers : Stage → List ℕ → List ℕ
 asked_numbers w numbers = best_or_all (first_of (waiting_of w.table.subscriptions numbers)) numbers
 
 -- they meet a request
-unfoldable pub answered_to : List ℕ → PublishCall → World → World
+unfoldable pub answered_to : List ℕ → PublishCall → Stage → Stage
 answered_to [] call w = with_round w (with_reply w.round (refused_of w.round.clock status.BAD_NO_SUBSCRIPTION call))
 answered_to (n ∷ ns) call w = all_met Publish (asked_by w call) (asked_numbers w (n ∷ ns))
 
-abbrev pub answered_by : Option TimeoutNote → ℕ → PublishCall → World → World
-answered_by (Some note) session call w = with_round w (note_told w.round call note)
-answered_by None session call w = answered_to (part_at session w.table.sessions).numbers call w
+abbrev pub noted_or_answered : Option TimeoutNote → ℕ → PublishCall → Stage → Stage
+noted_or_answered (Some note) session call w = with_round w (note_told w.round call note)
+noted_or_answered None session call w = answered_to (part_at session w.table.sessions).numbers call w
 
 abbrev pub with_results : PublishCall → List Status → PublishCall
 with_results call results = record call { results = results }
 
 -- acknowledgements are applied, and the oldest note is taken
-abbrev pub ready : ℕ → List SubscriptionAcknowledgement → World → World
+abbrev pub ready : ℕ → List SubscriptionAcknowledgement → Stage → Stage
 ready session acks w =
     let table : TableState = w.table in
     record w { table = record { subscriptions = (acknowledged_all session table.subscriptions acks).subscriptions; sessions = without_note session table.sessions } }
 
 -- the oldest note is told, or else the session's subscriptions see the request
-unfoldable pub published : ℕ → PublishCall → List SubscriptionAcknowledgement → World → World
+unfoldable pub published : ℕ → PublishCall → List SubscriptionAcknowledgement → Stage → Stage
 published session call acks w =
     let table : TableState = w.table in
-    answered_by (note_of session table.sessions) session (with_results call (acknowledged_all session table.subscriptions acks).results) (ready session acks w)
+    noted_or_answered (note_of session table.sessions) session (with_results call (acknowledged_all session table.subscriptions acks).results) (ready session acks w)

@@ -17,7 +17,7 @@ use Rattle.ua_subscriptions.specs.Making.{revised_of, refused_one, added}
 use Rattle.ua_subscriptions.specs.Named.{Outcome, outcome}
 use Rattle.ua_subscriptions.specs.Scenes.{is_overspent}
 use Rattle.ua_subscriptions.specs.Settings.{bounds_of}
-use Rattle.ua_subscriptions.specs.Tables.{TableState, World, world, no_table, part_at}
+use Rattle.ua_subscriptions.specs.Tables.{TableState, Stage, stage, no_table, part_at}
 
 -- what the server allows; what ended the subscriptions, if anything; the number of the last one that was made; how many
 -- messages were sent; the live subscriptions, and what their sessions have of them
@@ -35,8 +35,8 @@ abbrev pub round_of : SubscriptionsState → Moment → Round
 round_of s clock = record { bounds = s.bounds; clock = clock; own = 0; call = Timer; asked = None; message_count = s.message_count; replies = []; rows = [] }
 
 -- where a call begins
-abbrev pub world_of : SubscriptionsState → ItemsState → Moment → World
-world_of s items clock = world (round_of s clock) s.table items
+abbrev pub stage_of : SubscriptionsState → ItemsState → Moment → Stage
+stage_of s items clock = stage (round_of s clock) s.table items
 
 -- ---- what a call leaves
 
@@ -45,18 +45,18 @@ pub record Said (A : Type 0) : Type 0 where
   pub outcome : Outcome A
   pub state : SubscriptionsState
 
-abbrev pub left_by : SubscriptionsState → World → SubscriptionsState
+abbrev pub left_by : SubscriptionsState → Stage → SubscriptionsState
 left_by s w = record s { message_count = w.round.message_count; table = w.table }
 
 abbrev pub said : {A : Type 0} → SubscriptionsState → Outcome A → Said A
-said s o = record { outcome = o; state = left_by s o.world }
+said s o = record { outcome = o; state = left_by s o.stage }
 
 -- a call without an answer of its own
-abbrev pub told : SubscriptionsState → World → Said Unit
-told s w = said s (outcome tt w)
+abbrev pub without_answer : SubscriptionsState → Stage → Said Unit
+without_answer s w = said s (outcome tt w)
 
 abbrev pub answered_of : {A : Type 0} → Outcome A → Answered A
-answered_of o = record { answer = o.answer; replies = o.world.round.replies; rows = o.world.round.rows }
+answered_of o = record { answer = o.answer; replies = o.stage.round.replies; rows = o.stage.round.rows }
 
 -- why a call ends: as an earlier one did; or for want of memory, or since messages can't be counted any more
 abbrev pub Halts : Option Halt → Halt → Round → Type 0
@@ -66,8 +66,8 @@ Halts None Exhausted round = is_overspent round ≡ true
 
 -- a call gives and leaves what is said of it, and its messages were counted; or it ends for good
 abbrev pub Serves : {A : Type 0} → Result (Answered A) Halt → SubscriptionsState → SubscriptionsState → ItemsState → Said A → Type 0
-Serves (Ok x) old new items s = (old.halted ≡ None) × (x ≡ answered_of s.outcome) × (new ≡ s.state) × (items ≡ s.outcome.world.items) × (is_overspent s.outcome.world.round ≡ false)
-Serves (Err halt) old new items s = (new.halted ≡ Some halt) × Halts old.halted halt s.outcome.world.round
+Serves (Ok x) old new items s = (old.halted ≡ None) × (x ≡ answered_of s.outcome) × (new ≡ s.state) × (items ≡ s.outcome.stage.items) × (is_overspent s.outcome.stage.round ≡ false)
+Serves (Err halt) old new items s = (new.halted ≡ Some halt) × Halts old.halted halt s.outcome.stage.round
 
 -- how the code ends a call
 pub record Settled (A : Type 0) : Type 0 where
@@ -84,14 +84,14 @@ settled s round (Err halt) = record { result = Err halt; state = record s { halt
 abbrev pub is_full : SubscriptionsState → ℕ → Bool
 is_full s session = nat_le s.bounds.subscriptions (length (part_at session s.table.sessions).numbers) || (nat_le s.bounds.subscriptions_in_all (length s.table.subscriptions) || nat_le (2 ^ 32 - 1) s.made)
 
-unfoldable pub refused : ℕ → Settings → Bool → SubscriptionsState → World → Said (Result Created Status)
+unfoldable pub refused : ℕ → Settings → Bool → SubscriptionsState → Stage → Said (Result Created Status)
 refused session asked enabled s w = said s (outcome (Err status.BAD_TOO_MANY_SUBSCRIPTIONS) (refused_one session asked enabled w))
 
-unfoldable pub created_one : ℕ → Settings → Bool → SubscriptionsState → World → Said (Result Created Status)
+unfoldable pub created_one : ℕ → Settings → Bool → SubscriptionsState → Stage → Said (Result Created Status)
 created_one session asked enabled s w =
     let after = added session (s.made + 1) asked enabled w in
     record { outcome = outcome (Ok (record { number = s.made + 1; revised = revised_of asked })) after; state = record (left_by s after) { made = s.made + 1 } }
 
 unfoldable pub created : ℕ → Settings → Bool → SubscriptionsState → ItemsState → Moment → Said (Result Created Status)
 created session asked enabled s items clock =
-    if is_full s session then refused session asked enabled s (world_of s items clock) else created_one session asked enabled s (world_of s items clock)
+    if is_full s session then refused session asked enabled s (stage_of s items clock) else created_one session asked enabled s (stage_of s items clock)

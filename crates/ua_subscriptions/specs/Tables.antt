@@ -1,5 +1,5 @@
 -- Subscriptions and sessions under their numbers, and what a subscription meets.
-use Rattle.std.specs.Prelude.{◌≡◌, ⊤, ℕ, Bool, true, false, List, [], Option, Some, None, Result, Ok, Err, unwrap_or, map, fold, if◌then◌else◌}
+use Rattle.std.specs.Prelude.{◌≡◌, ⊤, ℕ, true, List, [], Option, Some, None, Result, Ok, Err, unwrap_or, map, fold, if◌then◌else◌}
 use Rattle.std.specs.BTreeMap.{is_at}
 use Rattle.std.specs.Map.{lookup, set_value, remove_entry}
 use Rattle.std.specs.Ordering.{nat_cmp}
@@ -21,8 +21,11 @@ pub record TableState : Type 0 where
   pub subscriptions : List (ℕ × Subscription)
   pub sessions : List (ℕ × SessionSubscriptions)
 
+abbrev pub table_of : List (ℕ × Subscription) → List (ℕ × SessionSubscriptions) → TableState
+table_of subscriptions sessions = record { subscriptions = subscriptions; sessions = sessions }
+
 abbrev pub no_table : TableState
-no_table = record { subscriptions = []; sessions = [] }
+no_table = table_of [] []
 
 abbrev pub subscription_at : ℕ → List (ℕ × Subscription) → Option Subscription
 subscription_at own subscriptions = lookup (is_at (nat_cmp own)) subscriptions
@@ -43,90 +46,72 @@ vars_by number items sessions (Some s) = Some (vars_of s (part_of s.session sess
 abbrev pub vars_found : ℕ → ItemsState → TableState → Option Vars
 vars_found number items table = vars_by number items table.sessions (subscription_at number table.subscriptions)
 
-abbrev pub kept_by : Option Subscription → List ℕ
-kept_by None = []
-kept_by (Some s) = map number_of s.kept
+abbrev pub kept_numbers_by : Option Subscription → List ℕ
+kept_numbers_by None = []
+kept_numbers_by (Some s) = map number_of s.kept
 
 -- the numbers of the messages that it keeps, in the order in which they were sent
 abbrev pub kept_found : ℕ → TableState → List ℕ
-kept_found number table = kept_by (subscription_at number table.subscriptions)
+kept_found number table = kept_numbers_by (subscription_at number table.subscriptions)
 
 -- a session has this in the place of what it had
 abbrev pub set_part : Option ℕ → List (ℕ × SessionSubscriptions) → SessionSubscriptions → List (ℕ × SessionSubscriptions)
 set_part None sessions part = sessions
 set_part (Some session) sessions part = set_value (is_at (nat_cmp session)) sessions part
 
--- what a row leaves, where the sessions' parts lie under their numbers
-pub record Met : Type 0 where
-  pub round : Round
-  pub subscription : Subscription
-  pub sessions : List (ℕ × SessionSubscriptions)
-  pub items : ItemsState
+-- the scene of a live subscription, with what its session has
+abbrev pub scene_in : Round → Subscription → List (ℕ × SessionSubscriptions) → ItemsState → Scene
+scene_in round s sessions items = scene round s (part_of s.session sessions) items
 
-abbrev pub met_by : Scene → Option ℕ → List (ℕ × SessionSubscriptions) → Met
-met_by c session sessions = record { round = c.round; subscription = c.subscription; sessions = set_part session sessions c.part; items = c.items }
+-- a subscription is put back under its number: one that is closed is no more
+abbrev pub put_back : ℕ → Subscription → List (ℕ × Subscription) → List (ℕ × Subscription)
+put_back own s subscriptions = if is_closed s then remove_entry (is_at (nat_cmp own)) (set_value (is_at (nat_cmp own)) subscriptions s) else set_value (is_at (nat_cmp own)) subscriptions s
 
-abbrev pub met_in : Round → Subscription → List (ℕ × SessionSubscriptions) → ItemsState → Met
-met_in round s sessions items = met_by (fired (scene round s (part_of s.session sessions) items)) s.session sessions
-
--- what a row leaves, where the subscriptions lie under their numbers, too, and whether the one that the round was at is closed
-pub record OneMet : Type 0 where
-  pub round : Round
-  pub subscriptions : List (ℕ × Subscription)
-  pub sessions : List (ℕ × SessionSubscriptions)
-  pub items : ItemsState
-  pub closed : Bool
-
-abbrev pub one_met : Round → List (ℕ × Subscription) → List (ℕ × SessionSubscriptions) → ItemsState → Bool → OneMet
-one_met round subscriptions sessions items closed = record { round = round; subscriptions = subscriptions; sessions = sessions; items = items; closed = closed }
-
-abbrev pub one_met_by : List (ℕ × Subscription) → ℕ → Met → OneMet
-one_met_by subscriptions own m = one_met m.round (set_value (is_at (nat_cmp own)) subscriptions m.subscription) m.sessions m.items (is_closed m.subscription)
-
-abbrev pub met_found : Round → List (ℕ × Subscription) → List (ℕ × SessionSubscriptions) → ItemsState → Option Subscription → OneMet
-met_found round subscriptions sessions items None = one_met round subscriptions sessions items false
-met_found round subscriptions sessions items (Some s) = one_met_by subscriptions round.own (met_in round s sessions items)
-
-abbrev pub met_at : Round → List (ℕ × Subscription) → List (ℕ × SessionSubscriptions) → ItemsState → OneMet
-met_at round subscriptions sessions items = met_found round subscriptions sessions items (subscription_at round.own subscriptions)
+-- the table once a subscription has become another, and its session's part this one
+abbrev pub table_after : ℕ → Subscription → Subscription → SessionSubscriptions → TableState → TableState
+table_after own before after part table = table_of (put_back own after table.subscriptions) (set_part before.session table.sessions part)
 
 -- ---- a subscription under its number
 
 -- a round, the table and the items, as the one thing that requests change
-pub record World : Type 0 where
+pub record Stage : Type 0 where
   pub round : Round
   pub table : TableState
   pub items : ItemsState
 
-abbrev pub world : Round → TableState → ItemsState → World
-world round table items = record { round = round; table = table; items = items }
-
--- one that is closed is no more
-abbrev pub without_closed : ℕ → OneMet → World
-without_closed own m = record {
-  round = m.round;
-  table = record { subscriptions = if m.closed then remove_entry (is_at (nat_cmp own)) m.subscriptions else m.subscriptions; sessions = m.sessions };
-  items = m.items;
-}
+abbrev pub stage : Round → TableState → ItemsState → Stage
+stage round table items = record { round = round; table = table; items = items }
 
 abbrev pub with_call : Round → ℕ → Call → Round
 with_call round own call = record round { own = own; call = call }
 
+-- where a call comes to the subscription of a number
+abbrev pub scene_at : Stage → ℕ → Call → Subscription → Scene
+scene_at w own call s = scene_in (with_call w.round own call) s w.table.sessions w.items
+
+-- and what a scene leaves that began with this subscription
+abbrev pub stage_after : ℕ → Subscription → Scene → TableState → Stage
+stage_after own s c table = stage c.round (table_after own s c.subscription c.part table) c.items
+
+abbrev pub met_by : Stage → ℕ → Call → Option Subscription → Stage
+met_by w own call None = record w { round = with_call w.round own call }
+met_by w own call (Some s) = stage_after own s (fired (scene_at w own call s)) w.table
+
 -- what comes to the subscription of a number fires one row; nothing happens where there is none
-unfoldable pub met : World → ℕ → Call → World
-met w own call = without_closed own (met_at (with_call w.round own call) w.table.subscriptions w.table.sessions w.items)
+unfoldable pub met : Stage → ℕ → Call → Stage
+met w own call = met_by w own call (subscription_at own w.table.subscriptions)
 
 -- it comes to several, one after the other
-abbrev pub meet_each : Call → World → ℕ → World
+abbrev pub meet_each : Call → Stage → ℕ → Stage
 meet_each call w own = met w own call
 
-abbrev pub all_met : Call → World → List ℕ → World
+abbrev pub all_met : Call → Stage → List ℕ → Stage
 all_met call w numbers = fold (meet_each call) w numbers
 
 -- ---- what the code does of it
 
--- a call leaves the world that is said of it, unless memory ran out, or messages can't be counted any more
-abbrev pub Meets : {A : Type 0} → Result A Halt → World → World → Type 0
+-- a call leaves the stage that is said of it, unless memory ran out, or messages can't be counted any more
+abbrev pub Meets : {A : Type 0} → Result A Halt → Stage → Stage → Type 0
 Meets (Ok done) new said = new ≡ said
 Meets (Err Memory) new said = ⊤
 Meets (Err Exhausted) new said = is_overspent said.round ≡ true

@@ -10,7 +10,7 @@ ghost use Rattle.ua_subscriptions.specs.Answers.{refused_of};
 ghost use Rattle.ua_subscriptions.specs.Ending.{session_ended, came_by_other, part_without_conn, entry_without_conn, without_conn, all_requests, all_left, shut_down};
 ghost use Rattle.ua_subscriptions.specs.Named.{with_replies};
 ghost use Rattle.ua_subscriptions.specs.Queues.{first_of};
-ghost use Rattle.ua_subscriptions.specs.Tables.{no_table, world, all_met, Meets, part_at};
+ghost use Rattle.ua_subscriptions.specs.Tables.{no_table, stage, all_met, Meets, part_at};
 ghost use Rattle.ua_subscriptions.specs.declared.call.Call.TheVariants.{Shutdown};
 
 use crate::askers::AskerList;
@@ -41,7 +41,7 @@ impl LiveSubscriptions {
         session: u32,
         deleting: bool,
     ) -> Result<(), Halt>
-        ensures { Meets result (world round.new self.new items.new) (session_ended session deleting (world round.old self.old items.old)) }
+        ensures { Meets result (stage round.new self.new items.new) (session_ended session deleting (stage round.old self.old items.old)) }
     {
         let numbers = self.numbers(alloc, session)?;
         let call = Call::SessionEnd { deleting };
@@ -66,7 +66,7 @@ impl LiveSubscriptions {
     // The shutdown comes to each subscription, the one with the least number first. At an `Err` nothing is known of what is
     // left.
     fn close_all(&mut self, alloc: Global, round: &mut Round, items: &mut Items) -> Result<(), Halt>
-        ensures met { Meets result (world round.new self.new items.new) (all_met Shutdown (world round.old self.old items.old) (keys_of self.old.subscriptions)) }
+        ensures met { Meets result (stage round.new self.new items.new) (all_met Shutdown (stage round.old self.old items.old) (keys_of self.old.subscriptions)) }
         ensures none { OnOk result (self.new.subscriptions ≡ []) }
         ensures calm { self.old.subscriptions ≡ [] → IsOk result }
     {
@@ -87,7 +87,7 @@ impl LiveSubscriptions {
         round: &mut Round,
         status: Status,
     ) -> Result<(), AllocError>
-        ensures left { OnOk result ((items : ItemsState) → world round.new self.new items ≡ all_left status (world round.old self.old items)) }
+        ensures left { OnOk result ((items : ItemsState) → stage round.new self.new items ≡ all_left status (stage round.old self.old items)) }
         ensures none { all_requests (values_of self.old.sessions) ≡ [] → IsOk result }
     {
         let sessions = replace(&mut self.sessions, BTreeMap::new(alloc));
@@ -104,7 +104,7 @@ impl LiveSubscriptions {
         round: &mut Round,
         items: &mut Items,
     ) -> Result<(), Halt>
-        ensures meets { Meets result (world round.new self.new items.new) (shut_down (world round.old self.old items.old)) }
+        ensures meets { Meets result (stage round.new self.new items.new) (shut_down (stage round.old self.old items.old)) }
         ensures empty { OnOk result (self.new ≡ no_table) }
         ensures none { self.old.subscriptions ≡ [] → all_requests (values_of self.old.sessions) ≡ [] → IsOk result }
     {

@@ -3,7 +3,7 @@
 ghost use Rattle.std.specs.Prelude.{◌≡◌, false, length, option_map, IfOk, IsOk};
 ghost use Rattle.ua_subscriptions.specs.Making.{revised_of, refused_one, added, modified, republished, timed, kept_at};
 ghost use Rattle.ua_subscriptions.specs.Named.{Comes, is_own as is_own_spec};
-ghost use Rattle.ua_subscriptions.specs.Tables.{world, Meets, part_at};
+ghost use Rattle.ua_subscriptions.specs.Tables.{stage, Meets, part_at};
 ghost use Rattle.ua_subscriptions.specs.Ranks.{is_any_due};
 
 use crate::asking::fire_of;
@@ -74,7 +74,7 @@ impl LiveSubscriptions {
         settings: Settings,
         enabled: bool,
     ) -> Result<(), Halt>
-        ensures { Meets result (world round.new self.now items.new) (refused_one session settings enabled (world round.old self.now items.old)) }
+        ensures { Meets result (stage round.new self.now items.new) (refused_one session settings enabled (stage round.old self.now items.old)) }
     {
         round.own = 0;
         round.call = Call::Create {
@@ -104,7 +104,7 @@ impl LiveSubscriptions {
         settings: Settings,
         enabled: bool,
     ) -> Result<(), Halt>
-        ensures { Meets result (world round.new self.new items.new) (added session number settings enabled (world round.old self.old items.old)) }
+        ensures { Meets result (stage round.new self.new items.new) (added session number settings enabled (stage round.old self.old items.old)) }
     {
         round.own = number;
         round.call = Call::Create {
@@ -152,7 +152,7 @@ impl LiveSubscriptions {
         number: u32,
         settings: Settings,
     ) -> Result<Result<Revised, Status>, Halt>
-        ensures comes { Comes result (world round.new self.new items.new) (modified session number settings (world round.old self.old items.old)) }
+        ensures comes { Comes result (stage round.new self.new items.new) (modified session number settings (stage round.old self.old items.old)) }
         ensures memory { is_own_spec self.old session number ≡ false → IsOk result }
     {
         if !self.is_own(session, number) {
@@ -175,7 +175,7 @@ impl LiveSubscriptions {
         number: u32,
         wanted: u32,
     ) -> Result<Result<Bytes, Status>, Halt>
-        ensures comes { Comes result (world round.new self.new items.new) (republished session number wanted (world round.old self.old items.old)) }
+        ensures comes { Comes result (stage round.new self.new items.new) (republished session number wanted (stage round.old self.old items.old)) }
         ensures memory { is_own_spec self.old session number ≡ false → IsOk result }
     {
         if !self.is_own(session, number) {
@@ -198,7 +198,7 @@ impl LiveSubscriptions {
         round: &mut Round,
         items: &mut Items,
     ) -> Result<(), Halt>
-        ensures timed { Meets result (world round.new self.new items.new) (timed (world round.old self.old items.old)) }
+        ensures timed { Meets result (stage round.new self.new items.new) (timed (stage round.old self.old items.old)) }
         ensures none { is_any_due round.old.clock self.old.subscriptions ≡ false → IsOk result }
     {
         let numbers = self.due(alloc, round.clock)?;

@@ -5,7 +5,7 @@ ghost use Rattle.ua_subscriptions.specs.Askers.{AreAsked};
 ghost use Rattle.ua_subscriptions.specs.declared.askers.Asker.{Asker as AskerLem};
 ghost use Rattle.ua_subscriptions.specs.Named.{is_own as is_own_spec, is_own_in, Comes, own_met, named_all, with_replies, requests_refused, sessions_without_requests, all_refused, has_none, deleted};
 ghost use Rattle.ua_subscriptions.specs.Answers.{refused_of};
-ghost use Rattle.ua_subscriptions.specs.Tables.{world, subscription_at};
+ghost use Rattle.ua_subscriptions.specs.Tables.{stage, subscription_at};
 ghost use Rattle.ua_monitored_items.specs.Items.{ItemsState};
 ghost use Rattle.ua_views.specs.Views.{or_none};
 
@@ -72,7 +72,7 @@ impl LiveSubscriptions {
         number: u32,
         call: Call,
     ) -> Result<Status, Halt>
-        ensures { Comes result (world round.new self.new items.new) (own_met session call (world round.old self.old items.old) number) }
+        ensures { Comes result (stage round.new self.new items.new) (own_met session call (stage round.old self.old items.old) number) }
     {
         if !self.is_own(session, number) {
             return Ok(Status::BAD_SUBSCRIPTION_ID_INVALID);
@@ -94,7 +94,7 @@ impl LiveSubscriptions {
         numbers: ArrayView<'_, u32>,
         call: Call,
     ) -> Result<Listed<Status>, Halt>
-        ensures { Comes result (world round.new self.new items.new) (named_all session call (world round.old self.old items.old) (or_none numbers.entry)) }
+        ensures { Comes result (stage round.new self.new items.new) (named_all session call (stage round.old self.old items.old) (or_none numbers.entry)) }
     {
         let mut results = Listed::new(alloc);
         for number in numbers {
@@ -115,7 +115,7 @@ impl LiveSubscriptions {
         session: u32,
         status: Status,
     ) -> Result<(), AllocError>
-        ensures { OnOk result ((items : ItemsState) → world round.new self.new items ≡ all_refused session status (world round.old self.old items)) }
+        ensures { OnOk result ((items : ItemsState) → stage round.new self.new items ≡ all_refused session status (stage round.old self.old items)) }
     {
         refuse_at(round, alloc, &mut self.sessions, session, status)
     }
@@ -141,7 +141,7 @@ impl LiveSubscriptions {
         session: u32,
         numbers: ArrayView<'_, u32>,
     ) -> Result<Listed<Status>, Halt>
-        ensures { Comes result (world round.new self.new items.new) (deleted session (world round.old self.old items.old) (or_none numbers.entry)) }
+        ensures { Comes result (stage round.new self.new items.new) (deleted session (stage round.old self.old items.old) (or_none numbers.entry)) }
     {
         match self.fire_named(alloc, round, items, session, numbers, Call::Delete) {
             Ok(results) => {

@@ -6,7 +6,7 @@ ghost use Rattle.ua_subscriptions.specs.DueLists.{AreListed};
 ghost use Rattle.ua_subscriptions.specs.declared.askers.Asker.{Asker as AskerLem};
 ghost use Rattle.ua_subscriptions.specs.declared.due_list.Due.{Due as DueLem};
 ghost use Rattle.ua_subscriptions.specs.Publishing.{acknowledged, acknowledged_all, note_of, without_note, note_told, answered_to, published};
-ghost use Rattle.ua_subscriptions.specs.Tables.{world, Meets};
+ghost use Rattle.ua_subscriptions.specs.Tables.{stage, Meets};
 ghost use Rattle.ua_views.specs.Views.{or_none};
 
 use crate::call::Call;
@@ -111,7 +111,7 @@ impl LiveSubscriptions {
         numbers: &[u32],
         call: PublishCall,
     ) -> Result<(), Halt>
-        ensures { Meets result (world round.new self.new items.new) (answered_to numbers.now call (world round.old self.old items.old)) }
+        ensures { Meets result (stage round.new self.new items.new) (answered_to numbers.now call (stage round.old self.old items.old)) }
     {
         if numbers.is_empty() {
             round.replies.push(call.refused(alloc, round.clock, Status::BAD_NO_SUBSCRIPTION)?)?;
@@ -139,7 +139,7 @@ impl LiveSubscriptions {
         call: PublishCall,
         acknowledgements: ArrayView<'_, SubscriptionAcknowledgement>,
     ) -> Result<(), Halt>
-        ensures { Meets result (world round.new self.new items.new) (published session call (or_none acknowledgements.entry) (world round.old self.old items.old)) }
+        ensures { Meets result (stage round.new self.new items.new) (published session call (or_none acknowledgements.entry) (stage round.old self.old items.old)) }
     {
         let subscriptions = &mut self.subscriptions;
         let results = acknowledge_all(alloc, subscriptions, session, acknowledgements)?;

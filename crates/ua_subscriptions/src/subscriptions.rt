@@ -8,7 +8,7 @@ ghost use Rattle.ua_subscriptions.specs.Named.{is_own as is_own_spec, named_all,
 ghost use Rattle.ua_subscriptions.specs.Publishing.{published};
 ghost use Rattle.ua_subscriptions.specs.Ranks.{is_any_due};
 ghost use Rattle.ua_subscriptions.specs.Scenes.{is_overspent};
-ghost use Rattle.ua_subscriptions.specs.SubscriptionCalls.{no_subscriptions, round_of, world_of, settled as settled_spec, Serves, said, told, is_full as is_full_spec, refused, created_one, created};
+ghost use Rattle.ua_subscriptions.specs.SubscriptionCalls.{no_subscriptions, round_of, stage_of, settled as settled_spec, Serves, said, without_answer, is_full as is_full_spec, refused, created_one, created};
 ghost use Rattle.ua_subscriptions.specs.Tables.{no_table, met, subscription_at, vars_found, kept_found};
 ghost use Rattle.ua_subscriptions.specs.declared.call.Call.TheVariants.{Items as ItemsCall, SetMode};
 ghost use Rattle.ua_views.specs.Views.{or_none};
@@ -152,7 +152,7 @@ impl Subscriptions {
         enabled: bool,
     ) -> Result<Answered<Result<Created, Status>>, Halt>
         requires { self.old.halted ≡ None }
-        ensures { Serves result self.old self.new items.new (refused session settings enabled self.old (world_of self.old items.old clock)) }
+        ensures { Serves result self.old self.new items.new (refused session settings enabled self.old (stage_of self.old items.old clock)) }
     {
         let mut round = self.round(alloc, clock);
         let table = &self.table;
@@ -175,7 +175,7 @@ impl Subscriptions {
     ) -> Result<Answered<Result<Created, Status>>, Halt>
         requires going { self.old.halted ≡ None }
         requires room { self.old.made < 2 ^ 32 - 1 }
-        ensures { Serves result self.old self.new items.new (created_one session settings enabled self.old (world_of self.old items.old clock)) }
+        ensures { Serves result self.old self.new items.new (created_one session settings enabled self.old (stage_of self.old items.old clock)) }
     {
         let mut round = self.round(alloc, clock);
         let number = self.made + 1;
@@ -229,7 +229,7 @@ impl Subscriptions {
         number: u32,
         settings: Settings,
     ) -> Result<Answered<Result<Revised, Status>>, Halt>
-        ensures serves { Serves result self.old self.new items.new (said self.old (modified session number settings (world_of self.old items.old clock))) }
+        ensures serves { Serves result self.old self.new items.new (said self.old (modified session number settings (stage_of self.old items.old clock))) }
         ensures memory { self.old.halted ≡ None → is_own_spec self.old.table session number ≡ false → IsOk result }
     {
         if let Some(halt) = self.halted {
@@ -255,7 +255,7 @@ impl Subscriptions {
         numbers: ArrayView<'_, u32>,
         enabled: bool,
     ) -> Result<Answered<Listed<Status>>, Halt>
-        ensures { Serves result self.old self.new items.new (said self.old (named_all session (SetMode enabled) (world_of self.old items.old clock) (or_none numbers.entry))) }
+        ensures { Serves result self.old self.new items.new (said self.old (named_all session (SetMode enabled) (stage_of self.old items.old clock) (or_none numbers.entry))) }
     {
         if let Some(halt) = self.halted {
             return Err(halt);
@@ -281,7 +281,7 @@ impl Subscriptions {
         session: u32,
         numbers: ArrayView<'_, u32>,
     ) -> Result<Answered<Listed<Status>>, Halt>
-        ensures { Serves result self.old self.new items.new (said self.old (deleted session (world_of self.old items.old clock) (or_none numbers.entry))) }
+        ensures { Serves result self.old self.new items.new (said self.old (deleted session (stage_of self.old items.old clock) (or_none numbers.entry))) }
     {
         if let Some(halt) = self.halted {
             return Err(halt);
@@ -308,7 +308,7 @@ impl Subscriptions {
         call: PublishCall,
         acknowledgements: ArrayView<'_, SubscriptionAcknowledgement>,
     ) -> Result<Answered<()>, Halt>
-        ensures { Serves result self.old self.new items.new (told self.old (published session call (or_none acknowledgements.entry) (world_of self.old items.old clock))) }
+        ensures { Serves result self.old self.new items.new (without_answer self.old (published session call (or_none acknowledgements.entry) (stage_of self.old items.old clock))) }
     {
         if let Some(halt) = self.halted {
             return Err(halt);
@@ -334,7 +334,7 @@ impl Subscriptions {
         number: u32,
         wanted: u32,
     ) -> Result<Answered<Result<Bytes, Status>>, Halt>
-        ensures serves { Serves result self.old self.new items.new (said self.old (republished session number wanted (world_of self.old items.old clock))) }
+        ensures serves { Serves result self.old self.new items.new (said self.old (republished session number wanted (stage_of self.old items.old clock))) }
         ensures memory { self.old.halted ≡ None → is_own_spec self.old.table session number ≡ false → IsOk result }
     {
         if let Some(halt) = self.halted {
@@ -355,7 +355,7 @@ impl Subscriptions {
         items: &mut Items,
         clock: Moment,
     ) -> Result<Answered<()>, Halt>
-        ensures serves { Serves result self.old self.new items.new (told self.old (timed (world_of self.old items.old clock))) }
+        ensures serves { Serves result self.old self.new items.new (without_answer self.old (timed (stage_of self.old items.old clock))) }
         ensures none { self.old.halted ≡ None → is_any_due clock self.old.table.subscriptions ≡ false → IsOk result }
     {
         if let Some(halt) = self.halted {
@@ -376,7 +376,7 @@ impl Subscriptions {
         session: u32,
         deleting: bool,
     ) -> Result<Answered<()>, Halt>
-        ensures { Serves result self.old self.new items.new (told self.old (session_ended session deleting (world_of self.old items.old clock))) }
+        ensures { Serves result self.old self.new items.new (without_answer self.old (session_ended session deleting (stage_of self.old items.old clock))) }
     {
         if let Some(halt) = self.halted {
             return Err(halt);
@@ -398,7 +398,7 @@ impl Subscriptions {
         items: &mut Items,
         clock: Moment,
     ) -> Result<Answered<()>, Halt>
-        ensures serves { Serves result self.old self.new items.new (told self.old (shut_down (world_of self.old items.old clock))) }
+        ensures serves { Serves result self.old self.new items.new (without_answer self.old (shut_down (stage_of self.old items.old clock))) }
         ensures empty { OnOk result (self.new.table ≡ no_table) }
         ensures none { self.old.halted ≡ None → self.old.table.subscriptions ≡ [] → all_requests (values_of self.old.table.sessions) ≡ [] → IsOk result }
     {
@@ -420,7 +420,7 @@ impl Subscriptions {
         number: u32,
         before: Vars,
     ) -> Result<Answered<()>, Halt>
-        ensures serves { Serves result self.old self.new items.new (told self.old (met (world_of self.old items.old clock) number (ItemsCall before))) }
+        ensures serves { Serves result self.old self.new items.new (without_answer self.old (met (stage_of self.old items.old clock) number (ItemsCall before))) }
         ensures memory { self.old.halted ≡ None → subscription_at number self.old.table.subscriptions ≡ None → IsOk result }
     {
         if let Some(halt) = self.halted {

@@ -5,9 +5,10 @@ ghost use Rattle.server_messages.specs.declared.halt.Halt.TheVariants.{Exhausted
 ghost use Rattle.ua_subscriptions.specs.Askers.{AreAsked};
 ghost use Rattle.ua_subscriptions.specs.DueLists.{due_at, has_due, has_moved, AreListed};
 ghost use Rattle.ua_subscriptions.specs.declared.due_list.Due.{Due as DueLem};
-ghost use Rattle.ua_subscriptions.specs.Tables.{no_table, part_of, subscription_at, vars_found, kept_found, met_in, one_met, met_at, world, met, all_met, Meets};
+ghost use Rattle.ua_subscriptions.specs.Firing.{fired};
+ghost use Rattle.ua_subscriptions.specs.Tables.{no_table, table_of, part_of, set_part, subscription_at, vars_found, kept_found, scene_in, stage, met, all_met, Meets};
 ghost use Rattle.ua_subscriptions.specs.Subscriptions.{is_any};
-ghost use Rattle.ua_subscriptions.specs.Scenes.{is_overspent};
+ghost use Rattle.ua_subscriptions.specs.Scenes.{scene, is_overspent};
 
 use crate::askers::AskerList;
 use crate::asking::fire_of;
@@ -50,7 +51,6 @@ impl Model for LiveSubscriptions {
 }
 
 // Fires a row, where what the session has of subscriptions is found under its number.
-#[tactic(auto, using(crate::proofs::Meetings::met_absent))]
 fn fire_in(
     round: &mut Round,
     alloc: Global,
@@ -60,8 +60,11 @@ fn fire_in(
     items: &mut Items,
 ) -> Result<(), Halt>
     requires { AreAsked sessions.old.entries askers.old }
-    ensures ok { OnOk result (record { round = round.new; subscription = subscription.new; sessions = sessions.new.entries; items = items.new } ≡ met_in round.old subscription.old sessions.old.entries items.old) }
-    ensures exhausted { IfErr result (λ halt. halt ≡ Exhausted → is_overspent (met_in round.old subscription.old sessions.old.entries items.old).round ≡ true) }
+    ensures ok { let after = fired (scene_in round.old subscription.old sessions.old.entries items.old) in
+        OnOk result (scene round.new subscription.new after.part items.new ≡ after) }
+    ensures part { let after = fired (scene_in round.old subscription.old sessions.old.entries items.old) in
+        OnOk result (sessions.new.entries ≡ set_part subscription.old.session sessions.old.entries after.part) }
+    ensures exhausted { IfErr result (λ halt. halt ≡ Exhausted → is_overspent (fired (scene_in round.old subscription.old sessions.old.entries items.old)).round ≡ true) }
     ensures asked { AreAsked sessions.new.entries askers.new }
 {
     let Some(session) = subscription.session else {
@@ -97,8 +100,11 @@ fn fire_listed(
 ) -> Result<(), Halt>
     requires listed { has_due dues.old (due_at subscription.old.due round.old.own) ≡ true }
     requires asked { AreAsked sessions.old.entries askers.old }
-    ensures ok { OnOk result (record { round = round.new; subscription = subscription.new; sessions = sessions.new.entries; items = items.new } ≡ met_in round.old subscription.old sessions.old.entries items.old) }
-    ensures exhausted { IfErr result (λ halt. halt ≡ Exhausted → is_overspent (met_in round.old subscription.old sessions.old.entries items.old).round ≡ true) }
+    ensures ok { let after = fired (scene_in round.old subscription.old sessions.old.entries items.old) in
+        OnOk result (scene round.new subscription.new after.part items.new ≡ after) }
+    ensures part { let after = fired (scene_in round.old subscription.old sessions.old.entries items.old) in
+        OnOk result (sessions.new.entries ≡ set_part subscription.old.session sessions.old.entries after.part) }
+    ensures exhausted { IfErr result (λ halt. halt ≡ Exhausted → is_overspent (fired (scene_in round.old subscription.old sessions.old.entries items.old)).round ≡ true) }
     ensures listed { (q : DueLem) → has_due dues.new q ≡ has_moved round.old.own subscription.old.due subscription.new.due q (has_due dues.old q) }
     ensures asked { AreAsked sessions.new.entries askers.new }
 {
@@ -120,8 +126,8 @@ fn fire_listed(
     }
 }
 
-// Fires a row at the subscription that the round is at, if it is there, and tells whether it is closed then.
-#[tactic(auto, using(crate::proofs::Meetings::one_met_found))]
+// Fires a row at the subscription that the round is at, if it is there; one that is closed then is no more.
+#[tactic(auto, unfolding(crate::specs::Tables::met))]
 fn fire_at(
     round: &mut Round,
     alloc: Global,
@@ -130,24 +136,26 @@ fn fire_at(
     sessions: &mut BTreeMap<u32, SessionSubscriptions>,
     askers: &mut AskerList,
     items: &mut Items,
-) -> Result<bool, Halt>
+) -> Result<(), Halt>
     requires listed { AreListed subscriptions.old.entries dues.old }
     requires asked { AreAsked sessions.old.entries askers.old }
-    ensures ok { IfOk result (λ closed. one_met round.new subscriptions.new.entries sessions.new.entries items.new closed ≡ met_at round.old subscriptions.old.entries sessions.old.entries items.old) }
-    ensures exhausted { IfErr result (λ halt. halt ≡ Exhausted → is_overspent (met_at round.old subscriptions.old.entries sessions.old.entries items.old).round ≡ true) }
+    ensures meets { Meets result (stage round.new (table_of subscriptions.new.entries sessions.new.entries) items.new) (met (stage round.old (table_of subscriptions.old.entries sessions.old.entries) items.old) round.old.own round.old.call) }
     ensures listed { AreListed subscriptions.new.entries dues.new }
     ensures asked { AreAsked sessions.new.entries askers.new }
     ensures memory { subscription_at round.old.own subscriptions.old.entries ≡ None → IsOk result }
 {
-    match subscriptions.get_mut(&round.own) {
-        None => Ok(false),
-        Some(subscription) => {
-            match fire_listed(round, alloc, subscription, dues, sessions, askers, items) {
-                Ok(()) => Ok(is_closed(subscription)),
-                Err(halt) => Err(halt),
-            }
-        }
+    let own = round.own;
+    let Some(subscription) = subscriptions.get_mut(&own) else {
+        return Ok(());
+    };
+    match fire_listed(round, alloc, subscription, dues, sessions, askers, items) {
+        Ok(()) => {}
+        Err(halt) => return Err(halt),
     }
+    if is_closed(subscription) {
+        remove_at(subscriptions, dues, own);
+    }
+    Ok(())
 }
 
 impl LiveSubscriptions {
@@ -206,12 +214,12 @@ impl LiveSubscriptions {
         own: u32,
         call: Call,
     ) -> Result<(), Halt>
-        ensures meets { Meets result (world round.new self.new items.new) (met (world round.old self.old items.old) own call) }
+        ensures meets { Meets result (stage round.new self.new items.new) (met (stage round.old self.old items.old) own call) }
         ensures memory { subscription_at own self.old.subscriptions ≡ None → IsOk result }
     {
         round.own = own;
         round.call = call;
-        if fire_at(
+        fire_at(
             round,
             alloc,
             &mut self.subscriptions,
@@ -219,10 +227,7 @@ impl LiveSubscriptions {
             &mut self.sessions,
             &mut self.askers,
             items,
-        )? {
-            remove_at(&mut self.subscriptions, &mut self.dues, own);
-        }
-        Ok(())
+        )
     }
 
     /// It comes to several, one after the other. At an `Err` nothing is known of what is left.
@@ -234,7 +239,7 @@ impl LiveSubscriptions {
         numbers: &[u32],
         call: Call,
     ) -> Result<(), Halt>
-        ensures { Meets result (world round.new self.new items.new) (all_met call (world round.old self.old items.old) numbers.now) }
+        ensures { Meets result (stage round.new self.new items.new) (all_met call (stage round.old self.old items.old) numbers.now) }
     {
         for number in numbers {
             match self.fire_one(alloc, round, items, *number, call) {

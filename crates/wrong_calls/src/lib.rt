@@ -11,7 +11,7 @@ ghost use Rattle.ua_monitored_items.specs.Items.{is_available};
 ghost use Rattle.ua_subscriptions.specs.Ending.{shut_down, without_conn};
 ghost use Rattle.ua_subscriptions.specs.Making.{republished, timed};
 ghost use Rattle.ua_subscriptions.specs.Publishing.{published};
-ghost use Rattle.ua_subscriptions.specs.SubscriptionCalls.{Serves, said, told, world_of};
+ghost use Rattle.ua_subscriptions.specs.SubscriptionCalls.{Serves, said, without_answer, stage_of};
 ghost use Rattle.ua_views.specs.Views.{or_none};
 
 use bytes::Bytes;
@@ -63,7 +63,7 @@ pub fn publish_taken(
     call: PublishCall,
     acknowledgements: ArrayView<'_, SubscriptionAcknowledgement>,
 ) -> Result<Answered<()>, Halt>
-    ensures { Serves result subscriptions.old subscriptions.new items.new (told subscriptions.old (published session call (or_none acknowledgements.entry) (world_of subscriptions.old items.old clock))) }
+    ensures { Serves result subscriptions.old subscriptions.new items.new (without_answer subscriptions.old (published session call (or_none acknowledgements.entry) (stage_of subscriptions.old items.old clock))) }
 {
     subscriptions.publish(alloc, items, clock, session, call, acknowledgements)
 }
@@ -78,7 +78,7 @@ pub fn message_republished(
     number: u32,
     wanted: u32,
 ) -> Result<Answered<Result<Bytes, Status>>, Halt>
-    ensures { Serves result subscriptions.old subscriptions.new items.new (said subscriptions.old (republished session number wanted (world_of subscriptions.old items.old clock))) }
+    ensures { Serves result subscriptions.old subscriptions.new items.new (said subscriptions.old (republished session number wanted (stage_of subscriptions.old items.old clock))) }
 {
     subscriptions.republish(alloc, items, clock, session, number, wanted)
 }
@@ -90,7 +90,7 @@ pub fn timers_run(
     items: &mut Items,
     clock: Moment,
 ) -> Result<Answered<()>, Halt>
-    ensures { Serves result subscriptions.old subscriptions.new items.new (told subscriptions.old (timed (world_of subscriptions.old items.old clock))) }
+    ensures { Serves result subscriptions.old subscriptions.new items.new (without_answer subscriptions.old (timed (stage_of subscriptions.old items.old clock))) }
 {
     subscriptions.timers(alloc, items, clock)
 }
@@ -102,7 +102,7 @@ pub fn all_shut_down(
     items: &mut Items,
     clock: Moment,
 ) -> Result<Answered<()>, Halt>
-    ensures { Serves result subscriptions.old subscriptions.new items.new (told subscriptions.old (shut_down (world_of subscriptions.old items.old clock))) }
+    ensures { Serves result subscriptions.old subscriptions.new items.new (without_answer subscriptions.old (shut_down (stage_of subscriptions.old items.old clock))) }
 {
     subscriptions.shut_down(alloc, items, clock)
 }

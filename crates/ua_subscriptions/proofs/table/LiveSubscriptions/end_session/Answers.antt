@@ -1,13 +1,13 @@
 use Rattle.std.proofs.Common.{rules, ◌∙◌}
-use Rattle.ua_subscriptions.specs.Tables.{world}
+use Rattle.ua_subscriptions.specs.Tables.{stage}
 use Rattle.ua_subscriptions.proofs.Askings.{out_asked}
 use Rattle.ua_subscriptions.proofs.Places.{end_stops}
 use Rattle.ua_subscriptions.proofs.table.LiveSubscriptions.end_session.Goals as goal
 
 pub returns-in-Err : goal.returns-in-Err
 returns-in-Err c =
-    end_stops c.in-Err.halt c.args.session c.args.deleting c.as_slice.result.now (world c.args.round.now c.args.self.now c.args.items.now)
-    (world c.fire_all.new.round c.fire_all.new.self c.fire_all.new.items) (world c.fire_all.new.round c.fire_all.new.self c.fire_all.new.items) (search rules) c.in-Err.ensures
+    end_stops c.in-Err.halt c.args.session c.args.deleting c.as_slice.result.now (stage c.args.round.now c.args.self.now c.args.items.now)
+    (stage c.fire_all.new.round c.fire_all.new.self c.fire_all.new.items) (stage c.fire_all.new.round c.fire_all.new.self c.fire_all.new.items) (search rules) c.in-Err.ensures
 
 pub invariant_of-self : goal.invariant_of-self
 invariant_of-self c = (
