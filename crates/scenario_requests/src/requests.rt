@@ -36,6 +36,7 @@ use ua_subscription_messages::{
     DeleteSubscriptionsRequest, ModifyMonitoredItemsRequest, ModifySubscriptionRequest,
     MonitoredItemCreateRequest, MonitoredItemModifyRequest, MonitoringMode, PublishRequest,
     RepublishRequest, SetMonitoringModeRequest, SetPublishingModeRequest, SetTriggeringRequest,
+    SubscriptionId,
 };
 use ua_types::{Array, Listed, Moment, NodeId, Text};
 
@@ -347,7 +348,7 @@ fn links_of(alloc: Global, changes: Vec<LinkChange>) -> Result<(Vec<u32>, Vec<u3
 fn set_triggering_body(
     alloc: Global,
     header: RequestHeader,
-    subscription: u32,
+    subscription: SubscriptionId,
     triggering: u32,
     changes: Listed<LinkChange>,
 ) -> Result<Vec<u8>, AllocError>
@@ -356,7 +357,7 @@ fn set_triggering_body(
 {
     let (added, removed) = links_of(alloc, changes.into_vec())?;
     let fields = SetTriggeringRequest {
-        subscription_id: subscription,
+        subscription_id: subscription.0,
         triggering_item_id: triggering,
         links_to_add: held(added)?,
         links_to_remove: held(removed)?,
@@ -405,14 +406,14 @@ fn publish_body(
 fn republish_body(
     alloc: Global,
     header: RequestHeader,
-    subscription: u32,
+    subscription: SubscriptionId,
     sequence_number: u32,
 ) -> Result<Vec<u8>, AllocError>
     ensures ok { IfOk result (λ bytes. bytes.items ≡ republish_body header subscription sequence_number) }
     ensures again { IfOk result (λ bytes. IsWholeRequest republish_request_reading REPUBLISH_REQUEST header (republish_fields subscription sequence_number) bytes.items) }
 {
     let fields = RepublishRequest {
-        subscription_id: subscription,
+        subscription_id: subscription.0,
         retransmit_sequence_number: sequence_number,
     };
     whole_request(alloc, type_ids::REPUBLISH_REQUEST, header, fields)
@@ -483,7 +484,13 @@ pub fn request_body(
             subscription,
             triggering,
             changes,
-        } => set_triggering_body(alloc, header, subscription, triggering, changes),
+        } => set_triggering_body(
+            alloc,
+            header,
+            SubscriptionId(subscription),
+            triggering,
+            changes,
+        ),
         Request::DeleteItems {
             subscription,
             items,
@@ -492,7 +499,7 @@ pub fn request_body(
         Request::Republish {
             subscription,
             sequence_number,
-        } => republish_body(alloc, header, subscription, sequence_number),
+        } => republish_body(alloc, header, SubscriptionId(subscription), sequence_number),
         Request::DeleteSubscriptions { subscriptions } => {
             delete_subscriptions_body(alloc, header, subscriptions)
         }

@@ -20,6 +20,7 @@ use std::alloc::{AllocError, Global};
 use ua_services::Services;
 use ua_space::Space;
 use ua_state_table::Vars;
+use ua_subscription_messages::SubscriptionId;
 use ua_types::{Config, Listed};
 
 /// An OPC UA server without a socket, a clock and a source of random numbers.
@@ -131,7 +132,7 @@ impl Server {
             None => None,
             Some(world) => {
                 let services = &world.core.services;
-                services.subs.vars(number, &services.items)
+                services.subs.vars(SubscriptionId(number), &services.items)
             }
         }
     }
@@ -144,7 +145,10 @@ impl Server {
     {
         match &self.world {
             None => Ok(Vec::new(alloc)),
-            Some(world) => world.core.services.subs.kept_numbers(alloc, number),
+            Some(world) => {
+                let subscription = SubscriptionId(number);
+                world.core.services.subs.kept_numbers(alloc, subscription)
+            }
         }
     }
 
@@ -154,7 +158,10 @@ impl Server {
     {
         match &self.world {
             None => None,
-            Some(world) => world.core.services.subs.kept(number, wanted),
+            Some(world) => {
+                let subscription = SubscriptionId(number);
+                world.core.services.subs.kept(subscription, wanted)
+            }
         }
     }
 

@@ -20,6 +20,7 @@ use ua_read_write::{Timestamps, sample};
 use ua_space::Space;
 use ua_subscription_messages::{
     BorrowedNotification, DataChangeMessage, MonitoredItemNotification, MonitoringParametersView,
+    SubscriptionId,
 };
 use ua_types::{Copyable, Moment, NodeId, Status};
 use ua_values::DataValue;
@@ -199,7 +200,7 @@ impl Item {
         ensures { OnOk result (releases.new ≡ with_releases releases.old (releases_of self.now)) }
     {
         match self.links.numbers() {
-            Some(numbers) => releases.put_all(self.subscription, numbers),
+            Some(numbers) => releases.put_all(SubscriptionId(self.subscription), numbers),
             None => Ok(()),
         }
     }
@@ -253,10 +254,10 @@ impl Item {
     }
 
     // Is released by an item of a subscription that queued a value. Takes no memory.
-    pub(crate) fn release(&mut self, subscription: u32)
+    pub(crate) fn release(&mut self, subscription: SubscriptionId)
         ensures { self.new ≡ released_in subscription self.old }
     {
-        if self.subscription == subscription && self.mode.is_sampling() && self.queue.len() > 0 {
+        if self.subscription == subscription.0 && self.mode.is_sampling() && self.queue.len() > 0 {
             self.released = true;
         }
     }

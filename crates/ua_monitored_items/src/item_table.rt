@@ -31,7 +31,7 @@ use ua_messages::VALUE;
 use ua_read_write::{Change, Timestamps};
 use ua_space::Space;
 use ua_subscription_messages::{
-    DataChangeMessage, MonitoredItemNotification, MonitoringParametersView,
+    DataChangeMessage, MonitoredItemNotification, MonitoringParametersView, SubscriptionId,
 };
 use ua_types::{Copyable, NodeId};
 use ua_values::DataValue;
@@ -149,21 +149,21 @@ impl ItemTable {
     }
 
     /// How many items a subscription has.
-    pub fn count_of(&self, subscription: u32) -> usize
+    pub fn count_of(&self, subscription: SubscriptionId) -> usize
         ensures { result ≡ length (numbers_of subscription self.now.items) }
     {
-        match self.of_subscription.get(&subscription) {
+        match self.of_subscription.get(&subscription.0) {
             None => 0,
             Some(numbers) => numbers.len(),
         }
     }
 
     // The least number of a subscription's items.
-    fn first_of(&self, subscription: u32) -> Option<u32>
+    fn first_of(&self, subscription: SubscriptionId) -> Option<u32>
         ensures first { result ≡ first_number (numbers_of subscription self.now.items) }
         ensures own { IfSome result (λ number. IsOwn subscription number self.now.items) }
     {
-        let numbers = self.of_subscription.get(&subscription)?;
+        let numbers = self.of_subscription.get(&subscription.0)?;
         numbers.first().copied()
     }
 
@@ -215,7 +215,7 @@ impl ItemTable {
     }
 
     /// Takes all items of a subscription out. Takes no memory.
-    pub fn remove_all(&mut self, subscription: u32)
+    pub fn remove_all(&mut self, subscription: SubscriptionId)
         ensures { self.new ≡ record { made = self.old.made; items = without_all subscription self.old.items } }
     {
         let count = self.count_of(subscription);
@@ -226,7 +226,7 @@ impl ItemTable {
     }
 
     // Takes the first item of a subscription out, if there is one.
-    fn remove_first(&mut self, subscription: u32)
+    fn remove_first(&mut self, subscription: SubscriptionId)
         ensures made { self.new.made ≡ self.old.made }
         ensures others { without_all subscription self.new.items ≡ without_all subscription self.old.items }
         ensures left { length (numbers_of subscription self.new.items) ≡ length (numbers_of subscription self.old.items) - 1 }
@@ -237,7 +237,7 @@ impl ItemTable {
     }
 
     // There is no count any more for a subscription without items.
-    fn forget(&mut self, subscription: u32)
+    fn forget(&mut self, subscription: SubscriptionId)
         requires { numbers_of subscription self.old.items ≡ [] }
         ensures { self.new ≡ self.old }
     {
@@ -306,7 +306,7 @@ impl ItemTable {
     }
 
     /// Whether an item of a subscription that reports or is released has a value. Takes no memory, and looks at no item.
-    pub fn available(&self, subscription: u32) -> bool
+    pub fn available(&self, subscription: SubscriptionId) -> bool
         ensures { result ≡ any_waits self.now.items (numbers_of subscription self.now.items) }
     {
         self.items.has_value(subscription)
@@ -318,7 +318,7 @@ impl ItemTable {
     #[tactic(auto, using(crate::proofs::Serving::none_taken))]
     pub fn send(
         &mut self,
-        subscription: u32,
+        subscription: SubscriptionId,
         count: usize,
         message: &mut DataChangeMessage,
     ) -> Result<(), AllocError>
@@ -331,7 +331,7 @@ impl ItemTable {
         if !self.items.has_value(subscription) {
             return Ok(());
         }
-        match self.of_subscription.get(&subscription) {
+        match self.of_subscription.get(&subscription.0) {
             None => Ok(()),
             Some(numbers) => self.items.give(subscription, numbers, count, message),
         }
@@ -343,7 +343,7 @@ impl ItemTable {
     pub fn take_notes(
         &mut self,
         alloc: Global,
-        subscription: u32,
+        subscription: SubscriptionId,
         count: usize,
     ) -> Result<Vec<MonitoredItemNotification>, AllocError>
         ensures made { self.new.made ≡ self.old.made }
@@ -355,7 +355,7 @@ impl ItemTable {
         if !self.available(subscription) {
             return Ok(Vec::new(alloc));
         }
-        match self.of_subscription.get(&subscription) {
+        match self.of_subscription.get(&subscription.0) {
             None => Ok(Vec::new(alloc)),
             Some(numbers) => {
                 let notes = copy_all(alloc, &self.items, numbers, count)?;

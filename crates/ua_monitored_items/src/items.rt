@@ -30,7 +30,7 @@ use ua_space::Space;
 use ua_subscription_messages::{
     DataChangeMessage, MonitoredItemCreateRequestView, MonitoredItemCreateResult,
     MonitoredItemModifyRequestView, MonitoredItemModifyResult, MonitoredItemNotification,
-    MonitoringMode, MonitoringParametersView,
+    MonitoringMode, MonitoringParametersView, SubscriptionId,
 };
 use ua_types::{Config, Duration, ExtensionObject, ExtensionObjectBody, Moment, NodeId, Status};
 use ua_values::DataValue;
@@ -129,7 +129,7 @@ impl Items {
     }
 
     // As many items as a subscription may have are held, or as many as the server may have, or no number is left.
-    fn is_full(&self, subscription: u32) -> bool
+    fn is_full(&self, subscription: SubscriptionId) -> bool
         ensures full { result ≡ is_full_spec self.now subscription }
         ensures room { result ≡ false → self.now.made < 2 ^ 32 - 1 }
     {
@@ -141,7 +141,7 @@ impl Items {
     // Whether one more item may be made in this mode with these parameters, or why not. Takes no memory.
     fn kind_judged(
         &self,
-        subscription: u32,
+        subscription: SubscriptionId,
         mode: MonitoringMode,
         parameters: &MonitoringParametersView<'_>,
     ) -> Result<Kind, Status>
@@ -165,7 +165,7 @@ impl Items {
     fn create_judged(
         &self,
         space: &Space,
-        subscription: u32,
+        subscription: SubscriptionId,
         request: &MonitoredItemCreateRequestView<'_>,
     ) -> Result<Kind, Status>
         ensures verdict { result ≡ create_judged self.now space.now.nodes subscription request.now }
@@ -185,7 +185,7 @@ impl Items {
     fn new_item(
         &self,
         alloc: Global,
-        subscription: u32,
+        subscription: SubscriptionId,
         timestamps: Timestamps,
         request: &MonitoredItemCreateRequestView<'_>,
         kind: Kind,
@@ -197,7 +197,7 @@ impl Items {
         let size = revised_size(self.longest, parameters.queue_size);
         let queue = ItemQueue::new(alloc, size, parameters.discard_oldest)?;
         Ok(Item {
-            subscription,
+            subscription: subscription.0,
             node_id,
             attribute_id: request.item_to_monitor.attribute_id,
             client_handle: parameters.client_handle,
@@ -217,7 +217,7 @@ impl Items {
         alloc: Global,
         space: &Space,
         clock: Moment,
-        subscription: u32,
+        subscription: SubscriptionId,
         timestamps: Timestamps,
         request: &MonitoredItemCreateRequestView<'_>,
     ) -> Result<MonitoredItemCreateResult, AllocError>
@@ -251,7 +251,7 @@ impl Items {
         alloc: Global,
         space: &Space,
         clock: Moment,
-        subscription: u32,
+        subscription: SubscriptionId,
         timestamps: Timestamps,
         requests: ArrayView<'a, MonitoredItemCreateRequestView<'a>>,
     ) -> Result<Vec<MonitoredItemCreateResult>, AllocError>
@@ -301,7 +301,7 @@ impl Items {
         alloc: Global,
         space: &Space,
         clock: Moment,
-        subscription: u32,
+        subscription: SubscriptionId,
         timestamps: Timestamps,
         requests: ArrayView<'a, MonitoredItemCreateRequestView<'a>>,
     ) -> Result<Vec<MonitoredItemCreateResult>, AllocError>
@@ -322,13 +322,13 @@ impl Items {
     }
 
     // The item with this number, if it is of this subscription.
-    fn own_item(&self, subscription: u32, number: u32) -> Option<&Item>
+    fn own_item(&self, subscription: SubscriptionId, number: u32) -> Option<&Item>
         ensures { option_copied result ≡ own_item self.now subscription number }
     {
         match self.table.get(number) {
             None => None,
             Some(item) => {
-                if item.subscription == subscription {
+                if item.subscription == subscription.0 {
                     Some(item)
                 } else {
                     None
@@ -341,7 +341,7 @@ impl Items {
     #[tactic(auto, unfolding(crate::specs::Items::modify_one))]
     fn modify_one(
         &mut self,
-        subscription: u32,
+        subscription: SubscriptionId,
         timestamps: Timestamps,
         request: &MonitoredItemModifyRequestView<'_>,
     ) -> MonitoredItemModifyResult
@@ -380,7 +380,7 @@ impl Items {
     pub fn modify<'a>(
         &mut self,
         alloc: Global,
-        subscription: u32,
+        subscription: SubscriptionId,
         timestamps: Timestamps,
         requests: ArrayView<'a, MonitoredItemModifyRequestView<'a>>,
     ) -> Result<Vec<MonitoredItemModifyResult>, AllocError>
@@ -402,7 +402,7 @@ impl Items {
         alloc: Global,
         space: &Space,
         clock: Moment,
-        subscription: u32,
+        subscription: SubscriptionId,
         mode: Mode,
         number: u32,
         releases: &mut Releases,
@@ -431,7 +431,7 @@ impl Items {
         alloc: Global,
         space: &Space,
         clock: Moment,
-        subscription: u32,
+        subscription: SubscriptionId,
         mode: Mode,
         numbers: ArrayView<'_, u32>,
         releases: &mut Releases,
@@ -458,7 +458,7 @@ impl Items {
     }
 
     // Gives one item a mode, if it is known. Takes no memory.
-    fn mode_one(&mut self, subscription: u32, mode: Mode, prepared: Prepared) -> Status
+    fn mode_one(&mut self, subscription: SubscriptionId, mode: Mode, prepared: Prepared) -> Status
         ensures result { result ≡ mode_status (own_item self.old subscription prepared.number) }
         ensures state { self.new ≡ moded_own mode self.old prepared (own_item self.old subscription prepared.number) }
     {
@@ -477,7 +477,7 @@ impl Items {
         alloc: Global,
         space: &Space,
         clock: Moment,
-        subscription: u32,
+        subscription: SubscriptionId,
         mode: Mode,
         numbers: ArrayView<'_, u32>,
         releases: &mut Releases,
@@ -509,7 +509,7 @@ impl Items {
         alloc: Global,
         space: &Space,
         clock: Moment,
-        subscription: u32,
+        subscription: SubscriptionId,
         mode: Mode,
         numbers: ArrayView<'_, u32>,
     ) -> Result<Vec<Status>, AllocError>
@@ -533,14 +533,19 @@ impl Items {
     }
 
     // Whether this is the number of an item of this subscription.
-    fn is_own(&self, subscription: u32, number: u32) -> bool
+    fn is_own(&self, subscription: SubscriptionId, number: u32) -> bool
         ensures { result ≡ is_own_spec self.now subscription number }
     {
         self.own_item(subscription, number).is_some()
     }
 
     // Keeps a number if it is that of an item of this subscription. At an `Err` nothing changed.
-    fn keep_own(&self, subscription: u32, links: &mut Links, number: u32) -> Result<(), AllocError>
+    fn keep_own(
+        &self,
+        subscription: SubscriptionId,
+        links: &mut Links,
+        number: u32,
+    ) -> Result<(), AllocError>
         ensures ok { OnOk result (links.new ≡ (if is_own_spec self.now subscription number then insert_key nat_cmp links.old number else links.old)) }
         ensures err { OnErr result (links.new ≡ links.old) }
     {
@@ -554,7 +559,7 @@ impl Items {
     fn own_of(
         &self,
         alloc: Global,
-        subscription: u32,
+        subscription: SubscriptionId,
         numbers: &BTreeSet<u32>,
     ) -> Result<Links, AllocError>
         ensures own { IfOk result (λ own. own ≡ in_order (filter (is_own_spec self.now subscription) numbers.now.keys)) }
@@ -571,7 +576,7 @@ impl Items {
     fn linked_yet(
         &self,
         alloc: Global,
-        subscription: u32,
+        subscription: SubscriptionId,
         links: &Links,
     ) -> Result<Links, AllocError>
         ensures yet { IfOk result (λ yet. yet ≡ in_order (filter (is_own_spec self.now subscription) links.now)) }
@@ -584,7 +589,7 @@ impl Items {
     }
 
     // Whether an item may be linked to another of this subscription.
-    fn may_link(&self, subscription: u32, triggering: u32, number: u32) -> bool
+    fn may_link(&self, subscription: SubscriptionId, triggering: u32, number: u32) -> bool
         ensures { result ≡ may_link_spec self.now subscription triggering number }
     {
         self.is_own(subscription, number) && number != triggering
@@ -593,7 +598,7 @@ impl Items {
     // Links an item to the triggering one, if it may be. At an `Err` nothing changed.
     fn link_one(
         &self,
-        subscription: u32,
+        subscription: SubscriptionId,
         triggering: u32,
         links: &mut Links,
         number: u32,
@@ -612,7 +617,7 @@ impl Items {
     fn link_all(
         &self,
         alloc: Global,
-        subscription: u32,
+        subscription: SubscriptionId,
         triggering: u32,
         links: &mut Links,
         add: ArrayView<'_, u32>,
@@ -641,7 +646,7 @@ impl Items {
     pub fn link(
         &mut self,
         alloc: Global,
-        subscription: u32,
+        subscription: SubscriptionId,
         triggering: u32,
         add: ArrayView<'_, u32>,
         remove: ArrayView<'_, u32>,
@@ -670,7 +675,7 @@ impl Items {
 
     // Deletes one item, if it is known.
     #[tactic(auto, unfolding(crate::specs::Items::delete_one))]
-    fn delete_one(&mut self, subscription: u32, number: u32) -> Status
+    fn delete_one(&mut self, subscription: SubscriptionId, number: u32) -> Status
         ensures result { result ≡ (delete_one subscription self.old number).result }
         ensures ok { self.new ≡ (delete_one subscription self.old number).state }
     {
@@ -688,7 +693,7 @@ impl Items {
     pub fn delete(
         &mut self,
         alloc: Global,
-        subscription: u32,
+        subscription: SubscriptionId,
         numbers: ArrayView<'_, u32>,
     ) -> Result<Vec<Status>, AllocError>
         ensures results { IfOk result (λ results. results.items ≡ (all_served (delete_one subscription) self.old (or_none numbers.entry)).results) }
@@ -704,7 +709,7 @@ impl Items {
     }
 
     /// Deletes all items of a subscription, with what waits: the subscription's end. Takes no memory.
-    pub fn end(&mut self, subscription: u32)
+    pub fn end(&mut self, subscription: SubscriptionId)
         ensures { self.new ≡ ended_spec self.old subscription }
     {
         self.table.remove_all(subscription);
@@ -743,7 +748,7 @@ impl Items {
     }
 
     /// Whether an item of a subscription that reports or is released has a value. Takes no memory, and looks at no item.
-    pub fn available(&self, subscription: u32) -> bool
+    pub fn available(&self, subscription: SubscriptionId) -> bool
         ensures { result ≡ is_available self.now subscription }
     {
         self.table.available(subscription)
@@ -757,7 +762,7 @@ impl Items {
     /// and of the next item none is. The message is of no use then: nothing is known of what is written.
     pub fn send(
         &mut self,
-        subscription: u32,
+        subscription: SubscriptionId,
         count: usize,
         message: &mut DataChangeMessage,
     ) -> Result<(), AllocError>
@@ -777,7 +782,7 @@ impl Items {
     pub fn take_notes(
         &mut self,
         alloc: Global,
-        subscription: u32,
+        subscription: SubscriptionId,
         count: usize,
     ) -> Result<Vec<MonitoredItemNotification>, AllocError>
         ensures notes { IfOk result (λ notes. notes.items ≡ (taken_of self.old.items count (numbers_of subscription self.old.items)).notes) }

@@ -27,7 +27,7 @@ use std::alloc::{AllocError, Global};
 use std::collections::{BTreeMap, BTreeSet};
 use std::marker::Model;
 use ua_read_write::Timestamps;
-use ua_subscription_messages::{DataChangeMessage, MonitoringParametersView};
+use ua_subscription_messages::{DataChangeMessage, MonitoringParametersView, SubscriptionId};
 use ua_values::DataValue;
 
 /// Items under their numbers. Contracts see these alone.
@@ -98,7 +98,7 @@ fn release_at(items: &mut Slots<Item>, release: Release) -> Option<Recount>
 {
     let item = items.get_mut(release.number as u64)?;
     let had = item.waiting() > 0;
-    item.release(release.subscription);
+    item.release(SubscriptionId(release.subscription));
     Some(Recount {
         subscription: item.subscription,
         had,
@@ -206,7 +206,7 @@ impl Numbered {
             had: false,
             has: item.waiting() > 0,
         };
-        let Ok(()) = hold(&mut self.counts, item.subscription) else {
+        let Ok(()) = hold(&mut self.counts, SubscriptionId(item.subscription)) else {
             return Err(item);
         };
         self.items.insert(number as u64, item)?;
@@ -232,11 +232,11 @@ impl Numbered {
     }
 
     /// There is no count any more for a subscription without items. Takes no memory.
-    pub fn forget(&mut self, subscription: u32)
+    pub fn forget(&mut self, subscription: SubscriptionId)
         requires { numbers_of subscription self.old ≡ [] }
         ensures { self.new ≡ self.old }
     {
-        let _ = self.counts.remove(&subscription);
+        let _ = self.counts.remove(&subscription.0);
     }
 
     /// The item with this number gets other parameters. Takes no memory.
@@ -319,7 +319,7 @@ impl Numbered {
     /// and sent, at most so many. At an `Err` the first items have sent theirs, and the next one hasn't.
     pub fn give(
         &mut self,
-        subscription: u32,
+        subscription: SubscriptionId,
         numbers: &BTreeSet<u32>,
         count: usize,
         message: &mut DataChangeMessage,
@@ -356,11 +356,11 @@ impl Numbered {
     }
 
     /// Whether an item of a subscription has a value to send. Takes no memory, and looks at no item.
-    pub fn has_value(&self, subscription: u32) -> bool
+    pub fn has_value(&self, subscription: SubscriptionId) -> bool
         requires { AreRising self.now }
         ensures { result ≡ any_waits self.now (numbers_of subscription self.now) }
     {
-        match self.counts.get(&subscription) {
+        match self.counts.get(&subscription.0) {
             None => false,
             Some(count) => *count > 0,
         }

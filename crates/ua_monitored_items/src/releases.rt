@@ -7,6 +7,7 @@ ghost use Rattle.ua_monitored_items.specs.Releases.{release_cmp, with_releases};
 use std::alloc::{AllocError, Global};
 use std::collections::BTreeSet;
 use std::marker::Model;
+use ua_subscription_messages::SubscriptionId;
 
 /// An item that is to be released, if it is of this subscription, samples, and holds a value.
 #[derive(Clone, Copy, Debug, PartialEq, Eq, PartialOrd, Ord, Drop)]
@@ -63,14 +64,14 @@ impl Releases {
     /// Those with these numbers of a subscription. At an `Err` a part may be there.
     pub(crate) fn put_all(
         &mut self,
-        subscription: u32,
+        subscription: SubscriptionId,
         numbers: &BTreeSet<u32>,
     ) -> Result<(), AllocError>
         ensures { OnOk result (self.new ≡ with_releases self.old (map (λ number. record { subscription = subscription; number = number }) numbers.now.keys)) }
     {
         for number in numbers {
             self.put(Release {
-                subscription,
+                subscription: subscription.0,
                 number: *number,
             })?;
         }

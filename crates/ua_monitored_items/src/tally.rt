@@ -7,6 +7,7 @@ ghost use Rattle.ua_monitored_items.specs.Counts.{AreRecounted, AreRecountedBy, 
 
 use std::alloc::AllocError;
 use std::collections::BTreeMap;
+use ua_subscription_messages::SubscriptionId;
 
 /// Of an item that is put in, changed or taken out: whether it had a value to send before, and has one now.
 #[derive(Clone, Copy)]
@@ -27,14 +28,17 @@ pub struct Tally {
 }
 
 /// A subscription has a count from now on. At an `Err` nothing changed.
-pub(crate) fn hold(counts: &mut BTreeMap<u32, usize>, subscription: u32) -> Result<(), AllocError>
+pub(crate) fn hold(
+    counts: &mut BTreeMap<u32, usize>,
+    subscription: SubscriptionId,
+) -> Result<(), AllocError>
     ensures ok { OnOk result (AreHeld counts.old counts.new subscription) }
     ensures err { OnErr result (AreSame counts.old counts.new) }
 {
-    if counts.get(&subscription).is_some() {
+    if counts.get(&subscription.0).is_some() {
         return Ok(());
     }
-    match counts.insert(subscription, 0) {
+    match counts.insert(subscription.0, 0) {
         Ok(_) => Ok(()),
         Err(_) => Err(AllocError),
     }
@@ -57,15 +61,15 @@ pub(crate) fn count(counts: &mut BTreeMap<u32, usize>, recount: Recount, most: u
 
 impl Tally {
     /// The count of a subscription, or none.
-    pub(crate) fn of(counts: &BTreeMap<u32, usize>, subscription: u32) -> Tally
+    pub(crate) fn of(counts: &BTreeMap<u32, usize>, subscription: SubscriptionId) -> Tally
         ensures { (q : ℕ) → counts_with counts.now result q ≡ tree.get nat_cmp counts.now q }
     {
-        let waiting = match counts.get(&subscription) {
+        let waiting = match counts.get(&subscription.0) {
             None => 0,
             Some(count) => *count,
         };
         Tally {
-            subscription,
+            subscription: subscription.0,
             waiting,
         }
     }

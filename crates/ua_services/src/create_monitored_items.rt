@@ -10,7 +10,7 @@ use server_messages::Setting;
 use std::alloc::Global;
 use ua_messages::{MessageBody, ResponseHeader, results_body, type_ids};
 use ua_read_write::Timestamps;
-use ua_subscription_messages::CreateMonitoredItemsRequestView;
+use ua_subscription_messages::{CreateMonitoredItemsRequestView, SubscriptionId};
 use ua_types::{Refusal, Status};
 
 /// Makes monitored items of a subscription of the session, one after the other ([`ua_monitored_items::Items::create`]).
@@ -28,8 +28,8 @@ impl<'a> ItemService<'a> for CreateMonitoredItems {
 
     ghost change = { items_created };
 
-    fn subscription_id(request: &CreateMonitoredItemsRequestView<'a>) -> u32 {
-        request.subscription_id
+    fn subscription_id(request: &CreateMonitoredItemsRequestView<'a>) -> SubscriptionId {
+        SubscriptionId(request.subscription_id)
     }
 
     fn change_items(
@@ -42,12 +42,17 @@ impl<'a> ItemService<'a> for CreateMonitoredItems {
         let Some(timestamps) = Timestamps::chosen(request.timestamps_to_return) else {
             return Err(Refusal::Service(Status::BAD_TIMESTAMPS_TO_RETURN_INVALID));
         };
-        let number = request.subscription_id;
+        let subscription = SubscriptionId(request.subscription_id);
         let requests = operations(&setting.config, request.items_to_create)?;
         let space = &services.space;
-        let results = services
-            .items
-            .create(alloc, space, setting.clock, number, timestamps, requests)?;
+        let results = services.items.create(
+            alloc,
+            space,
+            setting.clock,
+            subscription,
+            timestamps,
+            requests,
+        )?;
         let header = ResponseHeader::good(caller.origin.handle, setting.clock);
         let type_id = type_ids::CREATE_MONITORED_ITEMS_RESPONSE;
         Ok(results_body(alloc, type_id, &header, results.as_slice())?)

@@ -10,7 +10,7 @@ use crate::status_results::statuses_body;
 use server_messages::Setting;
 use std::alloc::Global;
 use ua_messages::{MessageBody, type_ids};
-use ua_subscription_messages::DeleteMonitoredItemsRequestView;
+use ua_subscription_messages::{DeleteMonitoredItemsRequestView, SubscriptionId};
 use ua_types::Refusal;
 
 /// Deletes monitored items of a subscription of the session, one after the other ([`ua_monitored_items::Items::delete`]).
@@ -27,8 +27,8 @@ impl<'a> ItemService<'a> for DeleteMonitoredItems {
 
     ghost change = { items_deleted };
 
-    fn subscription_id(request: &DeleteMonitoredItemsRequestView<'a>) -> u32 {
-        request.subscription_id
+    fn subscription_id(request: &DeleteMonitoredItemsRequestView<'a>) -> SubscriptionId {
+        SubscriptionId(request.subscription_id)
     }
 
     fn change_items(
@@ -38,9 +38,9 @@ impl<'a> ItemService<'a> for DeleteMonitoredItems {
         request: DeleteMonitoredItemsRequestView<'a>,
         services: &mut Services,
     ) -> Result<MessageBody, Refusal> {
-        let number = request.subscription_id;
+        let subscription = SubscriptionId(request.subscription_id);
         let numbers = operations(&setting.config, request.monitored_item_ids)?;
-        let statuses = services.items.delete(alloc, number, numbers)?;
+        let statuses = services.items.delete(alloc, subscription, numbers)?;
         let type_id = type_ids::DELETE_MONITORED_ITEMS_RESPONSE;
         Ok(statuses_body(alloc, type_id, setting, caller, statuses.as_slice())?)
     }

@@ -15,6 +15,7 @@ use server_messages::{Served, Setting};
 use std::alloc::{AllocError, Global};
 use ua_messages::{MessageBody, fault};
 use ua_state_table::Vars;
+use ua_subscription_messages::SubscriptionId;
 use ua_types::{Refusal, Status};
 use ua_views::View;
 
@@ -34,7 +35,7 @@ pub trait ItemService<'a> {
     ghost change: { Setting → Caller → Self.Request → Services → Itemed };
 
     /// The number of the subscription that a request names.
-    fn subscription_id(request: &Self::Request) -> u32
+    fn subscription_id(request: &Self::Request) -> SubscriptionId
         ensures { result ≡ subscription request.now };
 
     /// Changes the items as a request asks for, and gives the body of the answer. At `Service`
@@ -77,11 +78,11 @@ pub trait ItemService<'a> {
 }
 
 // The variables of a subscription, if it is one of the session's.
-fn own_vars(services: &Services, session: u32, number: u32) -> Option<Vars>
-    ensures { result ≡ own_vars_spec session number services.now }
+fn own_vars(services: &Services, session: u32, subscription: SubscriptionId) -> Option<Vars>
+    ensures { result ≡ own_vars_spec session subscription services.now }
 {
-    if services.subs.is_own(session, number) {
-        services.subs.vars(number, &services.items)
+    if services.subs.is_own(session, subscription) {
+        services.subs.vars(subscription, &services.items)
     } else {
         None
     }
@@ -93,7 +94,7 @@ fn answer_items(
     alloc: Global,
     setting: &Setting,
     caller: &Caller,
-    number: u32,
+    number: SubscriptionId,
     before: Vars,
     body: MessageBody,
     services: &mut Services,

@@ -10,7 +10,7 @@ use server_messages::Setting;
 use std::alloc::Global;
 use ua_messages::{MessageBody, ResponseHeader, results_body, type_ids};
 use ua_read_write::Timestamps;
-use ua_subscription_messages::ModifyMonitoredItemsRequestView;
+use ua_subscription_messages::{ModifyMonitoredItemsRequestView, SubscriptionId};
 use ua_types::{Refusal, Status};
 
 /// Gives monitored items of a subscription of the session other parameters, one after the other
@@ -27,8 +27,8 @@ impl<'a> ItemService<'a> for ModifyMonitoredItems {
 
     ghost change = { items_modified };
 
-    fn subscription_id(request: &ModifyMonitoredItemsRequestView<'a>) -> u32 {
-        request.subscription_id
+    fn subscription_id(request: &ModifyMonitoredItemsRequestView<'a>) -> SubscriptionId {
+        SubscriptionId(request.subscription_id)
     }
 
     fn change_items(
@@ -42,9 +42,9 @@ impl<'a> ItemService<'a> for ModifyMonitoredItems {
             return Err(Refusal::Service(Status::BAD_TIMESTAMPS_TO_RETURN_INVALID));
         };
         let requests = operations(&setting.config, request.items_to_modify)?;
-        let number = request.subscription_id;
+        let subscription = SubscriptionId(request.subscription_id);
         let items = &mut services.items;
-        let results = items.modify(alloc, number, timestamps, requests)?;
+        let results = items.modify(alloc, subscription, timestamps, requests)?;
         let header = ResponseHeader::good(caller.origin.handle, setting.clock);
         let type_id = type_ids::MODIFY_MONITORED_ITEMS_RESPONSE;
         Ok(results_body(alloc, type_id, &header, results.as_slice())?)

@@ -10,7 +10,9 @@ use crate::sub_serving::{apart, reply_first};
 use server_messages::{Served, Setting};
 use std::alloc::{AllocError, Global};
 use ua_messages::{MessageBody, ResponseHeader, body, fault, type_ids};
-use ua_subscription_messages::{ModifySubscriptionRequest, ModifySubscriptionResponse};
+use ua_subscription_messages::{
+    ModifySubscriptionRequest, ModifySubscriptionResponse, SubscriptionId,
+};
 use ua_subscriptions::{Revised, Settings};
 use ua_types::{Refusal, Status};
 
@@ -62,11 +64,16 @@ impl<'a> SessionService<'a> for ModifySubscription {
             notifications: request.max_notifications_per_publish,
             priority: request.priority,
         };
-        let number = request.subscription_id;
+        let subscription = SubscriptionId(request.subscription_id);
         let items = &mut services.items;
-        let answered = services
-            .subs
-            .modify(alloc, items, setting.clock, session, number, settings)?;
+        let answered = services.subs.modify(
+            alloc,
+            items,
+            setting.clock,
+            session,
+            subscription,
+            settings,
+        )?;
         let (answer, others) = apart(alloc, answered);
         let body = answer_body(alloc, setting, caller, answer)?;
         Ok(reply_first(alloc, caller, body, others)?)

@@ -11,7 +11,7 @@ use bytes::Bytes;
 use server_messages::{Served, Setting};
 use std::alloc::{AllocError, Global};
 use ua_messages::{MessageBody, ResponseHeader, fault};
-use ua_subscription_messages::{RepublishRequest, republish_body};
+use ua_subscription_messages::{RepublishRequest, SubscriptionId, republish_body};
 use ua_types::{Refusal, Status};
 
 // The response with a message's bytes as they were made, or why there is none.
@@ -51,12 +51,12 @@ impl<'a> SessionService<'a> for Republish {
         request: RepublishRequest,
         services: &mut Services,
     ) -> Result<Served, Refusal> {
-        let number = request.subscription_id;
+        let subscription = SubscriptionId(request.subscription_id);
         let wanted = request.retransmit_sequence_number;
         let items = &mut services.items;
         let answered = services
             .subs
-            .republish(alloc, items, setting.clock, session, number, wanted)?;
+            .republish(alloc, items, setting.clock, session, subscription, wanted)?;
         let (answer, others) = apart(alloc, answered);
         let body = answer_body(alloc, setting, caller, answer)?;
         Ok(reply_first(alloc, caller, body, others)?)

@@ -11,7 +11,7 @@ use server_messages::Setting;
 use std::alloc::Global;
 use ua_messages::{MessageBody, type_ids};
 use ua_monitored_items::Mode;
-use ua_subscription_messages::SetMonitoringModeRequestView;
+use ua_subscription_messages::{SetMonitoringModeRequestView, SubscriptionId};
 use ua_types::{Refusal, Status};
 
 /// Gives monitored items of a subscription of the session a mode, one after the other ([`ua_monitored_items::Items::set_mode`]).
@@ -29,8 +29,8 @@ impl<'a> ItemService<'a> for SetMonitoringMode {
 
     ghost change = { items_moded };
 
-    fn subscription_id(request: &SetMonitoringModeRequestView<'a>) -> u32 {
-        request.subscription_id
+    fn subscription_id(request: &SetMonitoringModeRequestView<'a>) -> SubscriptionId {
+        SubscriptionId(request.subscription_id)
     }
 
     fn change_items(
@@ -44,11 +44,11 @@ impl<'a> ItemService<'a> for SetMonitoringMode {
         let Some(mode) = Mode::numbered(request.monitoring_mode) else {
             return Err(Refusal::Service(Status::BAD_MONITORING_MODE_INVALID));
         };
-        let number = request.subscription_id;
+        let subscription = SubscriptionId(request.subscription_id);
         let space = &services.space;
         let statuses = services
             .items
-            .set_mode(alloc, space, setting.clock, number, mode, numbers)?;
+            .set_mode(alloc, space, setting.clock, subscription, mode, numbers)?;
         let type_id = type_ids::SET_MONITORING_MODE_RESPONSE;
         Ok(statuses_body(alloc, type_id, setting, caller, statuses.as_slice())?)
     }

@@ -11,7 +11,7 @@ use server_messages::Setting;
 use std::alloc::{AllocError, Global};
 use ua_messages::{DiagnosticInfos, MessageBody, ResponseHeader, body, type_ids};
 use ua_monitored_items::Linked;
-use ua_subscription_messages::{SetTriggeringRequestView, SetTriggeringResponse};
+use ua_subscription_messages::{SetTriggeringRequestView, SetTriggeringResponse, SubscriptionId};
 use ua_types::{Array, Refusal};
 
 // The answer to a request that isn't refused.
@@ -53,8 +53,8 @@ impl<'a> ItemService<'a> for SetTriggering {
 
     ghost change = { items_linked };
 
-    fn subscription_id(request: &SetTriggeringRequestView<'a>) -> u32 {
-        request.subscription_id
+    fn subscription_id(request: &SetTriggeringRequestView<'a>) -> SubscriptionId {
+        SubscriptionId(request.subscription_id)
     }
 
     fn change_items(
@@ -67,9 +67,12 @@ impl<'a> ItemService<'a> for SetTriggering {
         let add = request.links_to_add;
         let remove = request.links_to_remove;
         judge(&setting.config, add.len() + remove.len())?;
-        let number = request.subscription_id;
+        let subscription = SubscriptionId(request.subscription_id);
         let triggering = request.triggering_item_id;
-        match services.items.link(alloc, number, triggering, add, remove)? {
+        match services
+            .items
+            .link(alloc, subscription, triggering, add, remove)?
+        {
             Ok(linked) => Ok(links_body(alloc, setting, caller, linked)?),
             Err(status) => Err(Refusal::Service(status)),
         }

@@ -8,7 +8,8 @@
 //! values of items is written value by value ([`DataChangeMessage`]), each from where it stands. What stands in a request has a
 //! view beside it, as [`PublishRequestView`], or is one itself where it is of fixed size, as [`RepublishRequest`].
 //!
-//! Nothing here decides anything: no number is revised, no item is looked up, and no queue is kept.
+//! Nothing here decides anything: no number is revised, no item is looked up, and no queue is kept. [`SubscriptionId`] is for the
+//! calls of the crates above; a message has the number itself.
 //!
 //! What a contract sees: a list of fields for each structure.
 //!
@@ -24,6 +25,7 @@ mod monitored_items;
 mod monitoring_parameters;
 mod notification_messages;
 mod publishing;
+mod subscription_id;
 mod subscriptions;
 mod triggering;
 
@@ -46,6 +48,7 @@ pub use publishing::{
     PublishRequestView, PublishResponse, RepublishRequest, RepublishResponse,
     StatusChangeNotification, SubscriptionAcknowledgement,
 };
+pub use subscription_id::SubscriptionId;
 pub use subscriptions::{
     CreateSubscriptionRequest, CreateSubscriptionResponse, DeleteSubscriptionsRequest,
     DeleteSubscriptionsRequestView, DeleteSubscriptionsResponse, ModifySubscriptionRequest,

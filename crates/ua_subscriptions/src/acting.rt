@@ -235,7 +235,7 @@ pub(crate) fn act(
             items.end(round.own);
         }
         Action::NoteTimeout => part.notes.push(TimeoutNote {
-            subscription: round.own,
+            subscription: round.own.0,
             number: number_after(subscription.number),
         })?,
         Action::Update => update(round, subscription),

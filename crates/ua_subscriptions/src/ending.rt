@@ -27,6 +27,7 @@ use std::alloc::{AllocError, Global};
 use std::collections::BTreeMap;
 use std::mem::replace;
 use ua_monitored_items::Items;
+use ua_subscription_messages::SubscriptionId;
 use ua_types::Status;
 
 impl LiveSubscriptions {
@@ -71,7 +72,7 @@ impl LiveSubscriptions {
         ensures calm { self.old.subscriptions ≡ [] → IsOk result }
     {
         while let Some(number) = first_number(&self.subscriptions) {
-            match self.fire_one(alloc, round, items, number, Call::Shutdown) {
+            match self.fire_one(alloc, round, items, SubscriptionId(number), Call::Shutdown) {
                 Ok(()) => {}
                 Err(halt) => return Err(halt),
             }

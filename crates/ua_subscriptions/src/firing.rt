@@ -88,14 +88,14 @@ pub(crate) fn fire(
     do_row(round, alloc, subscription, part, items, row)?;
     let after = after(round, before, subscription, part, items);
     round.rows.push(Fired {
-        subscription: round.own,
+        subscription: round.own.0,
         event,
         before,
         row,
         after,
     })?;
     if is_closed(subscription) {
-        part.numbers.remove(round.own);
+        part.numbers.remove(round.own.0);
     }
     Ok(())
 }

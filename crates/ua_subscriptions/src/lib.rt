@@ -19,9 +19,9 @@
 //! let told = subscriptions.publish(alloc, &mut items, clock, session, request, acknowledgements)?;
 //! let told = subscriptions.timers(alloc, &mut items, clock)?;        // those that are due, the best first
 //! send(told.replies);                                                // each by the connection that its request came by
-//! let before = subscriptions.vars(number, &items);
-//! items.delete(alloc, number, item_numbers)?;
-//! let told = subscriptions.items(alloc, &mut items, clock, number, before)?;
+//! let before = subscriptions.vars(subscription, &items);
+//! items.delete(alloc, subscription, item_numbers)?;
+//! let told = subscriptions.items(alloc, &mut items, clock, subscription, before)?;
 //! ```
 //!
 //! Read docs/SUBSCRIPTIONS.md first, then [`Subscriptions`], then `src/acting.rt`.

@@ -19,6 +19,7 @@ use bytes::Bytes;
 use server_messages::Halt;
 use std::alloc::{AllocError, Global};
 use ua_monitored_items::Items;
+use ua_subscription_messages::SubscriptionId;
 use ua_types::Status;
 
 /// The counts of a subscription as the server allows them (the revised counts of CreateSubscription and
@@ -76,7 +77,7 @@ impl LiveSubscriptions {
     ) -> Result<(), Halt>
         ensures { Meets result (stage round.new self.now items.new) (refused_one session settings enabled (stage round.old self.now items.old)) }
     {
-        round.own = 0;
+        round.own = SubscriptionId(0);
         round.call = Call::Create {
             full: true,
             settings,
@@ -100,7 +101,7 @@ impl LiveSubscriptions {
         round: &mut Round,
         items: &mut Items,
         session: u32,
-        number: u32,
+        number: SubscriptionId,
         settings: Settings,
         enabled: bool,
     ) -> Result<(), Halt>
@@ -130,12 +131,12 @@ impl LiveSubscriptions {
             Ok(()) => {}
             Err(halt) => return Err(halt),
         }
-        part.numbers.insert(number)?;
+        part.numbers.insert(number.0)?;
         self.sessions.insert(session, part)?;
         insert_at(
             &mut self.subscriptions,
             &mut self.dues,
-            number,
+            number.0,
             subscription,
         )?;
         Ok(())
@@ -149,16 +150,16 @@ impl LiveSubscriptions {
         round: &mut Round,
         items: &mut Items,
         session: u32,
-        number: u32,
+        subscription: SubscriptionId,
         settings: Settings,
     ) -> Result<Result<Revised, Status>, Halt>
-        ensures comes { Comes result (stage round.new self.new items.new) (modified session number settings (stage round.old self.old items.old)) }
-        ensures memory { is_own_spec self.old session number ≡ false → IsOk result }
+        ensures comes { Comes result (stage round.new self.new items.new) (modified session subscription settings (stage round.old self.old items.old)) }
+        ensures memory { is_own_spec self.old session subscription ≡ false → IsOk result }
     {
-        if !self.is_own(session, number) {
+        if !self.is_own(session, subscription) {
             return Ok(Err(Status::BAD_SUBSCRIPTION_ID_INVALID));
         }
-        match self.fire_one(alloc, round, items, number, Call::Modify { settings }) {
+        match self.fire_one(alloc, round, items, subscription, Call::Modify { settings }) {
             Ok(()) => Ok(Ok(Revised::new(settings))),
             Err(halt) => Err(halt),
         }
@@ -172,18 +173,18 @@ impl LiveSubscriptions {
         round: &mut Round,
         items: &mut Items,
         session: u32,
-        number: u32,
+        subscription: SubscriptionId,
         wanted: u32,
     ) -> Result<Result<Bytes, Status>, Halt>
-        ensures comes { Comes result (stage round.new self.new items.new) (republished session number wanted (stage round.old self.old items.old)) }
-        ensures memory { is_own_spec self.old session number ≡ false → IsOk result }
+        ensures comes { Comes result (stage round.new self.new items.new) (republished session subscription wanted (stage round.old self.old items.old)) }
+        ensures memory { is_own_spec self.old session subscription ≡ false → IsOk result }
     {
-        if !self.is_own(session, number) {
+        if !self.is_own(session, subscription) {
             return Ok(Err(Status::BAD_SUBSCRIPTION_ID_INVALID));
         }
-        let bytes = self.kept_bytes(number, wanted)?;
+        let bytes = self.kept_bytes(subscription, wanted)?;
         let kept = bytes.is_some();
-        match self.fire_one(alloc, round, items, number, Call::Republish { kept }) {
+        match self.fire_one(alloc, round, items, subscription, Call::Republish { kept }) {
             Ok(()) => Ok(bytes.ok_or(Status::BAD_MESSAGE_NOT_AVAILABLE)),
             Err(halt) => Err(halt),
         }
@@ -209,19 +210,19 @@ impl LiveSubscriptions {
     }
 
     /// The message of a subscription with this number, as it was first sent, if it is kept.
-    pub(crate) fn kept(&self, number: u32, wanted: u32) -> Option<&[u8]>
+    pub(crate) fn kept(&self, number: SubscriptionId, wanted: u32) -> Option<&[u8]>
         ensures { option_map (λ bytes. bytes.now) result ≡ kept_at number wanted self.now }
     {
-        let subscription = self.subscriptions.get(&number)?;
+        let subscription = self.subscriptions.get(&number.0)?;
         let message = subscription.kept.find(wanted)?;
         Some(message.bytes.as_slice())
     }
 
     // A share of it.
-    fn kept_bytes(&self, number: u32, wanted: u32) -> Result<Option<Bytes>, AllocError>
+    fn kept_bytes(&self, number: SubscriptionId, wanted: u32) -> Result<Option<Bytes>, AllocError>
         ensures { IfOk result (λ bytes. bytes ≡ kept_at number wanted self.now) }
     {
-        let Some(subscription) = self.subscriptions.get(&number) else {
+        let Some(subscription) = self.subscriptions.get(&number.0) else {
             return Ok(None);
         };
         match subscription.kept.find(wanted) {

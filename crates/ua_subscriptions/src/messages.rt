@@ -12,7 +12,8 @@ use ua_binary::Wire;
 use ua_messages::{DiagnosticInfo, type_ids};
 use ua_monitored_items::Items;
 use ua_subscription_messages::{
-    DataChangeMessage, NotificationMessage, StatusChangeNotification, notification_message,
+    DataChangeMessage, NotificationMessage, StatusChangeNotification, SubscriptionId,
+    notification_message,
 };
 use ua_types::{Array, Moment, Status};
 
@@ -32,7 +33,7 @@ pub(crate) fn data_message(
     number: u32,
     clock: Moment,
     items: &mut Items,
-    subscription: u32,
+    subscription: SubscriptionId,
     count: usize,
 ) -> Result<Bytes, AllocError>
     ensures bytes { IfOk result (λ bytes. bytes ≡ data_change_message number clock (taken_of items.old.items count (numbers_of subscription items.old.items)).notes) }

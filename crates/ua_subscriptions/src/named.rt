@@ -21,6 +21,7 @@ use std::alloc::{AllocError, Global};
 use std::collections::BTreeMap;
 use std::mem::replace;
 use ua_monitored_items::Items;
+use ua_subscription_messages::SubscriptionId;
 use ua_types::{Listed, Status};
 use ua_views::ArrayView;
 
@@ -44,10 +45,14 @@ pub(crate) fn refuse_requests(
 }
 
 /// Whether this is the number of a live subscription of this session.
-pub(crate) fn is_own(subscriptions: &BTreeMap<u32, Subscription>, session: u32, number: u32) -> bool
+pub(crate) fn is_own(
+    subscriptions: &BTreeMap<u32, Subscription>,
+    session: u32,
+    number: SubscriptionId,
+) -> bool
     ensures { result ≡ is_own_in session (subscription_at number subscriptions.now.entries) }
 {
-    match subscriptions.get(&number) {
+    match subscriptions.get(&number.0) {
         None => false,
         Some(subscription) => subscription.session == Some(session),
     }
@@ -55,10 +60,10 @@ pub(crate) fn is_own(subscriptions: &BTreeMap<u32, Subscription>, session: u32, 
 
 impl LiveSubscriptions {
     /// Whether this is the number of a live subscription of this session.
-    pub(crate) fn is_own(&self, session: u32, number: u32) -> bool
-        ensures { result ≡ is_own_spec self.now session number }
+    pub(crate) fn is_own(&self, session: u32, subscription: SubscriptionId) -> bool
+        ensures { result ≡ is_own_spec self.now session subscription }
     {
-        is_own(&self.subscriptions, session, number)
+        is_own(&self.subscriptions, session, subscription)
     }
 
     // It comes to the subscription of this number, if it is this session's.
@@ -69,15 +74,15 @@ impl LiveSubscriptions {
         round: &mut Round,
         items: &mut Items,
         session: u32,
-        number: u32,
+        subscription: SubscriptionId,
         call: Call,
     ) -> Result<Status, Halt>
-        ensures { Comes result (stage round.new self.new items.new) (own_met session call (stage round.old self.old items.old) number) }
+        ensures { Comes result (stage round.new self.new items.new) (own_met session call (stage round.old self.old items.old) subscription) }
     {
-        if !self.is_own(session, number) {
+        if !self.is_own(session, subscription) {
             return Ok(Status::BAD_SUBSCRIPTION_ID_INVALID);
         }
-        match self.fire_one(alloc, round, items, number, call) {
+        match self.fire_one(alloc, round, items, subscription, call) {
             Ok(()) => Ok(Status::GOOD),
             Err(halt) => Err(halt),
         }
@@ -98,7 +103,7 @@ impl LiveSubscriptions {
     {
         let mut results = Listed::new(alloc);
         for number in numbers {
-            match self.fire_own(alloc, round, items, session, number, call) {
+            match self.fire_own(alloc, round, items, session, SubscriptionId(number), call) {
                 Ok(status) => results.push(status)?,
                 Err(halt) => return Err(halt),
             }

@@ -7,7 +7,7 @@ use crate::kept::Kept;
 use server_messages::{Origin, Reply};
 use std::alloc::{AllocError, Global};
 use ua_messages::{ResponseHeader, fault};
-use ua_subscription_messages::publish_body;
+use ua_subscription_messages::{SubscriptionId, publish_body};
 use ua_types::{Listed, Moment, Status};
 
 /// A Publish request: it is answered at once, or waits for something to tell. It is answered on the connection that it
@@ -27,7 +27,7 @@ impl PublishCall {
         self,
         alloc: Global,
         clock: Moment,
-        subscription: u32,
+        subscription: SubscriptionId,
         kept: &Kept,
         more: bool,
         message: &[u8],
@@ -43,7 +43,7 @@ impl PublishCall {
         let body = publish_body(
             alloc,
             &header,
-            subscription,
+            subscription.0,
             numbers.as_slice(),
             more,
             message,

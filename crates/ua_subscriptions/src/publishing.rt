@@ -22,7 +22,7 @@ use server_messages::Halt;
 use std::alloc::{AllocError, Global};
 use std::collections::BTreeMap;
 use ua_monitored_items::Items;
-use ua_subscription_messages::SubscriptionAcknowledgement;
+use ua_subscription_messages::{SubscriptionAcknowledgement, SubscriptionId};
 use ua_types::{Listed, Status};
 use ua_views::ArrayView;
 
@@ -37,7 +37,7 @@ fn acknowledge(
     ensures listed { (dues : List DueLem) → AreListed subscriptions.old.entries dues → AreListed subscriptions.new.entries dues }
 {
     let own = acknowledgement.subscription_id;
-    if !is_own(subscriptions, session, own) {
+    if !is_own(subscriptions, session, SubscriptionId(own)) {
         return Status::BAD_SUBSCRIPTION_ID_INVALID;
     }
     match subscriptions.get_mut(&own) {
@@ -96,7 +96,8 @@ fn tell_note(
     let bytes = timeout_message(alloc, note.number, round.clock)?;
     let none = Kept::new(alloc);
     let message = bytes.as_slice();
-    let reply = call.published(alloc, round.clock, note.subscription, &none, false, message)?;
+    let own = SubscriptionId(note.subscription);
+    let reply = call.published(alloc, round.clock, own, &none, false, message)?;
     round.replies.push(reply)
 }
 
@@ -120,7 +121,13 @@ impl LiveSubscriptions {
         let best = self.best_waiting(numbers);
         round.asked = Some(call);
         match best {
-            Some(rank) => self.fire_one(alloc, round, items, rank.number, Call::Publish),
+            Some(rank) => self.fire_one(
+                alloc,
+                round,
+                items,
+                SubscriptionId(rank.number),
+                Call::Publish,
+            ),
             None => self.fire_all(alloc, round, items, numbers, Call::Publish),
         }
     }

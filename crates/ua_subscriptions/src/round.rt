@@ -7,6 +7,7 @@ use crate::publish_call::PublishCall;
 use crate::settings::Bounds;
 use server_messages::{Fired, Reply};
 use short_lists::ShortList;
+use ua_subscription_messages::SubscriptionId;
 use ua_types::{Listed, Moment};
 
 /// What the rows of one request or tick are done with, beside the subscriptions and items: what stays the same for all
@@ -18,7 +19,7 @@ pub struct Round {
     /// The moment of all that happens.
     pub clock: Moment,
     /// The number of the subscription that it is at.
-    pub own: u32,
+    pub own: SubscriptionId,
     /// What comes to it.
     pub call: Call,
     /// The Publish request that came or was taken out of its queue, until it is answered or queued.

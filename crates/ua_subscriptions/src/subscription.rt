@@ -7,6 +7,7 @@ use crate::kept::Kept;
 use std::alloc::Global;
 use ua_monitored_items::Items;
 use ua_state_table::{State, Vars};
+use ua_subscription_messages::SubscriptionId;
 use ua_types::Moment;
 
 /// A subscription, without its items: the variables of the state table, its counts, and the messages that it keeps
@@ -70,7 +71,7 @@ impl Subscription {
     }
 
     /// Its variables, under its number among the items. `waits`: its session has a request that waits.
-    pub(crate) fn vars(&self, waits: bool, items: &Items, own: u32) -> Vars
+    pub(crate) fn vars(&self, waits: bool, items: &Items, own: SubscriptionId) -> Vars
         ensures { result ≡ vars_with self.now waits items.now own }
     {
         Vars {

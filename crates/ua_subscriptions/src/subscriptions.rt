@@ -27,7 +27,7 @@ use std::alloc::{AllocError, Global};
 use std::marker::Model;
 use ua_monitored_items::Items;
 use ua_state_table::Vars;
-use ua_subscription_messages::SubscriptionAcknowledgement;
+use ua_subscription_messages::{SubscriptionAcknowledgement, SubscriptionId};
 use ua_types::{Config, Listed, Moment, Status};
 use ua_views::ArrayView;
 
@@ -89,7 +89,7 @@ impl Subscriptions {
         Round {
             bounds: self.bounds,
             clock,
-            own: 0,
+            own: SubscriptionId(0),
             call: Call::Timer,
             asked: None,
             message_count: self.message_count,
@@ -181,7 +181,8 @@ impl Subscriptions {
         let number = self.made + 1;
         self.made = number;
         let table = &mut self.table;
-        match table.add(alloc, &mut round, items, session, number, settings, enabled) {
+        let own = SubscriptionId(number);
+        match table.add(alloc, &mut round, items, session, own, settings, enabled) {
             Ok(()) => {
                 let revised = Revised::new(settings);
                 self.settle(round, Ok(Ok(Created { number, revised })))
@@ -226,11 +227,11 @@ impl Subscriptions {
         items: &mut Items,
         clock: Moment,
         session: u32,
-        number: u32,
+        subscription: SubscriptionId,
         settings: Settings,
     ) -> Result<Answered<Result<Revised, Status>>, Halt>
-        ensures serves { Serves result self.old self.new items.new (said self.old (modified session number settings (stage_of self.old items.old clock))) }
-        ensures memory { self.old.halted ≡ None → is_own_spec self.old.table session number ≡ false → IsOk result }
+        ensures serves { Serves result self.old self.new items.new (said self.old (modified session subscription settings (stage_of self.old items.old clock))) }
+        ensures memory { self.old.halted ≡ None → is_own_spec self.old.table session subscription ≡ false → IsOk result }
     {
         if let Some(halt) = self.halted {
             return Err(halt);
@@ -238,7 +239,7 @@ impl Subscriptions {
         let mut round = self.round(alloc, clock);
         let answer = self
             .table
-            .modify(alloc, &mut round, items, session, number, settings);
+            .modify(alloc, &mut round, items, session, subscription, settings);
         self.settle(round, answer)
     }
 
@@ -331,11 +332,11 @@ impl Subscriptions {
         items: &mut Items,
         clock: Moment,
         session: u32,
-        number: u32,
+        subscription: SubscriptionId,
         wanted: u32,
     ) -> Result<Answered<Result<Bytes, Status>>, Halt>
-        ensures serves { Serves result self.old self.new items.new (said self.old (republished session number wanted (stage_of self.old items.old clock))) }
-        ensures memory { self.old.halted ≡ None → is_own_spec self.old.table session number ≡ false → IsOk result }
+        ensures serves { Serves result self.old self.new items.new (said self.old (republished session subscription wanted (stage_of self.old items.old clock))) }
+        ensures memory { self.old.halted ≡ None → is_own_spec self.old.table session subscription ≡ false → IsOk result }
     {
         if let Some(halt) = self.halted {
             return Err(halt);
@@ -343,7 +344,7 @@ impl Subscriptions {
         let mut round = self.round(alloc, clock);
         let answer = self
             .table
-            .republish(alloc, &mut round, items, session, number, wanted);
+            .republish(alloc, &mut round, items, session, subscription, wanted);
         self.settle(round, answer)
     }
 
@@ -417,18 +418,20 @@ impl Subscriptions {
         alloc: Global,
         items: &mut Items,
         clock: Moment,
-        number: u32,
+        subscription: SubscriptionId,
         before: Vars,
     ) -> Result<Answered<()>, Halt>
-        ensures serves { Serves result self.old self.new items.new (without_answer self.old (met (stage_of self.old items.old clock) number (ItemsCall before))) }
-        ensures memory { self.old.halted ≡ None → subscription_at number self.old.table.subscriptions ≡ None → IsOk result }
+        ensures serves { Serves result self.old self.new items.new (without_answer self.old (met (stage_of self.old items.old clock) subscription (ItemsCall before))) }
+        ensures memory { self.old.halted ≡ None → subscription_at subscription self.old.table.subscriptions ≡ None → IsOk result }
     {
         if let Some(halt) = self.halted {
             return Err(halt);
         }
         let mut round = self.round(alloc, clock);
         let call = Call::Items { before };
-        let answer = self.table.fire_one(alloc, &mut round, items, number, call);
+        let answer = self
+            .table
+            .fire_one(alloc, &mut round, items, subscription, call);
         self.settle(round, answer)
     }
 
@@ -440,31 +443,35 @@ impl Subscriptions {
     }
 
     /// Whether this is the number of a live subscription of this session.
-    pub fn is_own(&self, session: u32, number: u32) -> bool
-        ensures { result ≡ is_own_spec self.now.table session number }
+    pub fn is_own(&self, session: u32, subscription: SubscriptionId) -> bool
+        ensures { result ≡ is_own_spec self.now.table session subscription }
     {
-        self.table.is_own(session, number)
+        self.table.is_own(session, subscription)
     }
 
     /// The variables of a subscription, or None where there is none with this number. Takes no memory.
-    pub fn vars(&self, number: u32, items: &Items) -> Option<Vars>
-        ensures { result ≡ vars_found number items.now self.now.table }
+    pub fn vars(&self, subscription: SubscriptionId, items: &Items) -> Option<Vars>
+        ensures { result ≡ vars_found subscription items.now self.now.table }
     {
-        self.table.vars(number, items)
+        self.table.vars(subscription, items)
     }
 
     /// The numbers of the messages that a subscription keeps, in the order in which they were sent; none where there is no
     /// such subscription.
-    pub fn kept_numbers(&self, alloc: Global, number: u32) -> Result<Vec<u32>, AllocError>
-        ensures { IfOk result (λ numbers. numbers.items ≡ kept_found number self.now.table) }
+    pub fn kept_numbers(
+        &self,
+        alloc: Global,
+        subscription: SubscriptionId,
+    ) -> Result<Vec<u32>, AllocError>
+        ensures { IfOk result (λ numbers. numbers.items ≡ kept_found subscription self.now.table) }
     {
-        self.table.kept_numbers(alloc, number)
+        self.table.kept_numbers(alloc, subscription)
     }
 
     /// The message of a subscription with this number, as it was first sent, if it is kept. Takes no memory.
-    pub fn kept(&self, number: u32, wanted: u32) -> Option<&[u8]>
-        ensures { option_map (λ bytes. bytes.now) result ≡ kept_at number wanted self.now.table }
+    pub fn kept(&self, subscription: SubscriptionId, wanted: u32) -> Option<&[u8]>
+        ensures { option_map (λ bytes. bytes.now) result ≡ kept_at subscription wanted self.now.table }
     {
-        self.table.kept(number, wanted)
+        self.table.kept(subscription, wanted)
     }
 }

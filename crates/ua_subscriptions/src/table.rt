@@ -25,6 +25,7 @@ use std::collections::BTreeMap;
 use std::marker::Model;
 use ua_monitored_items::Items;
 use ua_state_table::Vars;
+use ua_subscription_messages::SubscriptionId;
 
 /// The live subscriptions of a server under their numbers, and what each session has of them. Contracts see both as
 /// lists by rising number.
@@ -117,7 +118,7 @@ fn fire_listed(
             return Err(halt);
         }
     }
-    match dues.put_off(own, before, subscription.due) {
+    match dues.put_off(own.0, before, subscription.due) {
         Ok(()) => Ok(()),
         Err(_) => {
             subscription.due = before;
@@ -145,7 +146,7 @@ fn fire_at(
     ensures memory { subscription_at round.old.own subscriptions.old.entries ≡ None → IsOk result }
 {
     let own = round.own;
-    let Some(subscription) = subscriptions.get_mut(&own) else {
+    let Some(subscription) = subscriptions.get_mut(&own.0) else {
         return Ok(());
     };
     match fire_listed(round, alloc, subscription, dues, sessions, askers, items) {
@@ -153,7 +154,7 @@ fn fire_at(
         Err(halt) => return Err(halt),
     }
     if is_closed(subscription) {
-        remove_at(subscriptions, dues, own);
+        remove_at(subscriptions, dues, own.0);
     }
     Ok(())
 }
@@ -185,19 +186,23 @@ impl LiveSubscriptions {
     }
 
     /// The variables of the live subscription of a number.
-    pub(crate) fn vars(&self, number: u32, items: &Items) -> Option<Vars>
+    pub(crate) fn vars(&self, number: SubscriptionId, items: &Items) -> Option<Vars>
         ensures { result ≡ vars_found number items.now self.now }
     {
-        let subscription = self.subscriptions.get(&number)?;
+        let subscription = self.subscriptions.get(&number.0)?;
         let waits = self.waits(subscription.session);
         Some(subscription.vars(waits, items, number))
     }
 
     /// The numbers of the messages that the subscription of a number keeps.
-    pub(crate) fn kept_numbers(&self, alloc: Global, number: u32) -> Result<Vec<u32>, AllocError>
+    pub(crate) fn kept_numbers(
+        &self,
+        alloc: Global,
+        number: SubscriptionId,
+    ) -> Result<Vec<u32>, AllocError>
         ensures { IfOk result (λ numbers. numbers.items ≡ kept_found number self.now) }
     {
-        match self.subscriptions.get(&number) {
+        match self.subscriptions.get(&number.0) {
             None => Ok(Vec::new(alloc)),
             Some(subscription) => subscription.kept.numbers(alloc),
         }
@@ -211,7 +216,7 @@ impl LiveSubscriptions {
         alloc: Global,
         round: &mut Round,
         items: &mut Items,
-        own: u32,
+        own: SubscriptionId,
         call: Call,
     ) -> Result<(), Halt>
         ensures meets { Meets result (stage round.new self.new items.new) (met (stage round.old self.old items.old) own call) }
@@ -242,7 +247,7 @@ impl LiveSubscriptions {
         ensures { Meets result (stage round.new self.new items.new) (all_met call (stage round.old self.old items.old) numbers.now) }
     {
         for number in numbers {
-            match self.fire_one(alloc, round, items, *number, call) {
+            match self.fire_one(alloc, round, items, SubscriptionId(*number), call) {
                 Ok(()) => {}
                 Err(halt) => return Err(halt),
             }

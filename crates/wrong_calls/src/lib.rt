@@ -22,7 +22,7 @@ use ua_history::Interval;
 use ua_monitored_items::Items;
 use ua_session::Points;
 use ua_space::Space;
-use ua_subscription_messages::SubscriptionAcknowledgement;
+use ua_subscription_messages::{SubscriptionAcknowledgement, SubscriptionId};
 use ua_subscriptions::{Answered, PublishCall, Subscriptions};
 use ua_types::{Moment, Refusal, Status};
 use ua_views::ArrayView;
@@ -47,7 +47,7 @@ pub fn interval_past(interval: Interval, last: Moment) -> Interval
 }
 
 /// As [`Items::available`].
-pub fn values_wait(items: &Items, subscription: u32) -> bool
+pub fn values_wait(items: &Items, subscription: SubscriptionId) -> bool
     ensures { result ≡ is_available items.now subscription }
 {
     items.available(subscription)
@@ -75,12 +75,12 @@ pub fn message_republished(
     items: &mut Items,
     clock: Moment,
     session: u32,
-    number: u32,
+    subscription: SubscriptionId,
     wanted: u32,
 ) -> Result<Answered<Result<Bytes, Status>>, Halt>
-    ensures { Serves result subscriptions.old subscriptions.new items.new (said subscriptions.old (republished session number wanted (stage_of subscriptions.old items.old clock))) }
+    ensures { Serves result subscriptions.old subscriptions.new items.new (said subscriptions.old (republished session subscription wanted (stage_of subscriptions.old items.old clock))) }
 {
-    subscriptions.republish(alloc, items, clock, session, number, wanted)
+    subscriptions.republish(alloc, items, clock, session, subscription, wanted)
 }
 
 /// As [`Subscriptions::timers`].

@@ -11,7 +11,7 @@ use std::rt::Files;
 use std::{fs, io};
 use ua_binary::Cursor;
 use ua_monitored_items::Items;
-use ua_subscription_messages::SubscriptionAcknowledgement;
+use ua_subscription_messages::{SubscriptionAcknowledgement, SubscriptionId};
 use ua_subscriptions::{Answered, PublishCall, Settings, Subscriptions};
 use ua_types::{Config, Listed, Moment};
 use ua_views::{ArrayView, View};
@@ -91,7 +91,7 @@ fn go_on(alloc: Global, subscriptions: &mut Subscriptions, items: &mut Items) ->
         so = goes_on(&mut halted, created) && so;
         let published = publish(alloc, subscriptions, items, id);
         so = goes_on(&mut halted, published) && so;
-        let modified = subscriptions.modify(alloc, items, now, 1, 1, SETTINGS);
+        let modified = subscriptions.modify(alloc, items, now, 1, SubscriptionId(1), SETTINGS);
         so = goes_on(&mut halted, modified) && so;
     }
     so

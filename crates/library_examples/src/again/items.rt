@@ -15,11 +15,14 @@ use ua_space::Space;
 use ua_subscription_messages::{
     DataChangeMessage, DataChangeNotification, MonitoredItemCreateRequestView,
     MonitoredItemCreateResult, MonitoredItemModifyRequestView, MonitoredItemModifyResult,
-    MonitoredItemNotification, NotificationMessage,
+    MonitoredItemNotification, NotificationMessage, SubscriptionId,
 };
 use ua_types::{Moment, NodeId, Status};
 use ua_values::{Content, DataValue, Variant};
 use ua_views::{ArrayView, View};
+
+// The subscription whose items they are.
+const SUBSCRIPTION: SubscriptionId = SubscriptionId(1);
 
 // Two items, of Count and of Speed, which report up to three values each; and for both a queue of one value.
 const CREATED: &str =
@@ -41,7 +44,14 @@ fn create(
     let bytes = bytes_of(alloc, CREATED)?;
     let mut cursor = Cursor::new(bytes.as_slice());
     match ArrayView::<MonitoredItemCreateRequestView<'_>>::view(&mut cursor) {
-        Ok(requests) => Ok(items.create(alloc, space, Moment(0), 1, Timestamps::Both, requests)),
+        Ok(requests) => Ok(items.create(
+            alloc,
+            space,
+            Moment(0),
+            SUBSCRIPTION,
+            Timestamps::Both,
+            requests,
+        )),
         Err(_) => Err(failed()),
     }
 }
@@ -75,7 +85,7 @@ fn modify(
     let bytes = bytes_of(alloc, MODIFIED)?;
     let mut cursor = Cursor::new(bytes.as_slice());
     match ArrayView::<MonitoredItemModifyRequestView<'_>>::view(&mut cursor) {
-        Ok(requests) => Ok(items.modify(alloc, 1, Timestamps::Both, requests)),
+        Ok(requests) => Ok(items.modify(alloc, SUBSCRIPTION, Timestamps::Both, requests)),
         Err(_) => Err(failed()),
     }
 }
@@ -125,7 +135,7 @@ fn write_each(notes: &[MonitoredItemNotification], output: &mut Vec<u8>) -> io::
 // Has the items send what they have to tell, and writes a line for each value.
 fn write_notes(alloc: Global, items: &mut Items, output: &mut Vec<u8>) -> io::Result<()> {
     let mut message = DataChangeMessage::new(alloc, 1, Moment(0))?;
-    items.send(1, 9, &mut message)?;
+    items.send(SUBSCRIPTION, 9, &mut message)?;
     let bytes = message.finish()?;
     let told = told_by(alloc, bytes.as_slice())?;
     write_each(told.monitored_items.as_slice().unwrap_or(&[]), output)
@@ -133,9 +143,9 @@ fn write_notes(alloc: Global, items: &mut Items, output: &mut Vec<u8>) -> io::Re
 
 // Takes what the items have to tell as values, and writes a line for each.
 fn write_taken(alloc: Global, items: &mut Items, output: &mut Vec<u8>) -> io::Result<()> {
-    let mut taken = items.take_notes(alloc, 1, 9);
+    let mut taken = items.take_notes(alloc, SUBSCRIPTION, 9);
     if taken.is_err() {
-        taken = items.take_notes(alloc, 1, 9);
+        taken = items.take_notes(alloc, SUBSCRIPTION, 9);
     }
     let Ok(notes) = taken else {
         return output.write_all(TWICE);

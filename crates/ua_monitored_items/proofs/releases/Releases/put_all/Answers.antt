@@ -17,6 +17,7 @@ loop-number-preserved c =
       front ++ number ∷ [],
       append_assoc front (number ∷ []) c.next.new.self ∙ ap (λ xs. front ++ xs) (sym c.in-Some.ensures.steps) ∙ c.loop-number.invariant.3,
       c.in_ok-put.ensures
+          ∙ ap (λ q. insert_key release_cmp c.loop-number.self (record { subscription = q; number = number })) c.subscription.view_is
           ∙ ap (λ (rs : List Release). insert_key release_cmp rs (one number)) c.loop-number.invariant.4
           ∙ sym (fold-append (insert_key release_cmp) before (map one front) (one number ∷ []))
           ∙ ap (with_releases before) (sym (map-append one front (number ∷ []))),
