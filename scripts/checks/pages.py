@@ -1,5 +1,6 @@
 #!/usr/bin/env python3
-"""Sees that the pages are as short as they are meant to be, that their links lead somewhere, and that the index of laws is today's.
+"""Sees that the pages are as short as they are meant to be, that their links lead somewhere, and that what scripts write of them
+is today's.
 
 usage: scripts/checks/pages.py [--words]      --words: also how many words each page has
 
@@ -14,6 +15,7 @@ import sys
 
 TOP = os.path.dirname(os.path.dirname(os.path.dirname(os.path.realpath(__file__))))
 sys.path.insert(0, f"{TOP}/scripts/authoring")
+from crate_graph import GRAPH, graph  # noqa: E402
 from promise_index import DEFINITIONS, definitions, page_with_index  # noqa: E402
 
 ALL = 26000
@@ -72,6 +74,8 @@ def main():
         faults.append("docs/PROMISES.md: the index of laws isn't today's: run scripts/authoring/promise_index.py")
     if text_of(os.path.relpath(DEFINITIONS, TOP)) != definitions():
         faults.append("docs/definitions.csv isn't today's: run scripts/authoring/promise_index.py")
+    if not os.path.exists(GRAPH) or text_of(os.path.relpath(GRAPH, TOP)) != graph()[2]:
+        faults.append("docs/crates.svg isn't today's: run scripts/authoring/crate_graph.py")
     if sys.argv[1:]:
         print("".join(f"{count:6} of {BUDGETS[page]:5} {page}\n" for page, count in words.items()) + f"{sum(words.values()):6} of {ALL:5} all", flush=True)
     print("".join(f"WRONG {fault}\n" for fault in faults) + f"{len(faults)} wrong in {len(words) + len(OTHERS)} pages")
