@@ -8,13 +8,13 @@ use Rattle.server_core.specs.World.{opening}
 use Rattle.server_messages.specs.declared.store_fault.StoreFault.{StoreFault}
 use Rattle.server_messages.specs.declared.store_fault.StoreFault.TheVariants as store_fault
 use Rattle.socket_server.specs.Keeping.{Keeping, keeping_all}
-use Rattle.scenario_lines.specs.TraceText.{rows_text}
+use Rattle.scenario_run.specs.TraceText.{rows_text}
 use Rattle.socket_server.specs.Sockets.{ServeState}
 use Rattle.socket_server.specs.Serving.{IsServed, IsStopped, IsOutside}
 use Rattle.socket_server.specs.Output.{Puts, PutsPart, no_output}
 use Rattle.socket_server.specs.declared.serve_fault.ServeFault.{ServeFault}
 use Rattle.socket_server.specs.declared.serve_fault.ServeFault.TheVariants as serve_fault
-use Rattle.scenario_lines.specs.Held.{Place, Printed, CutShort}
+use Rattle.scenario_run.specs.Held.{Place, Printed, CutShort}
 use Rattle.commands.specs.Serving.{Between, ServesWith, text_of, output_at, ListensAndServes, ServesOn, ServesStored, ServesBy, BeginsWithStore, IsUnopened, idle_of, configured, status_served, status_stored}
 use Rattle.commands.specs.NodeFiles.{Made}
 use Rattle.commands.specs.declared.status.Status.{Status}

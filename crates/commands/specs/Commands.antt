@@ -17,8 +17,8 @@ use Rattle.command_line.specs.declared.command.Command.TheVariants.{Pipe, Check,
 use Rattle.command_line.specs.declared.stop.Stop.{Stop}
 use Rattle.command_line.specs.declared.stop.Stop.TheVariants.{Help, Usage as UsageStop, Memory}
 use Rattle.commands.specs.NodeFiles.{ReadFile, Made, made_in, made_of_none}
-use Rattle.scenario_lines.specs.Held.{Place, place}
-use Rattle.scenario_lines.specs.declared.runs.Lines.TheVariants.{Outs, Rows}
+use Rattle.scenario_run.specs.Held.{Place, place}
+use Rattle.scenario_run.specs.declared.runs.Lines.TheVariants.{Outs, Rows}
 use Rattle.commands.specs.Scenarios.{AssemblesFile, TellsFiles}
 use Rattle.commands.specs.declared.status.Status.{Status}
 use Rattle.commands.specs.declared.status.Status.TheVariants.{Done, Usage, Halted, Stream}

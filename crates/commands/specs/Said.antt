@@ -1,6 +1,6 @@
 -- What was read, made and said.
 use Rattle.std.specs.Prelude.{◌≡◌, ⊤, List, [], ℕ, Option, Some, None, Result, Ok, Err}
-use Rattle.scenario_lines.specs.Held.{Place, Printed, CutShort}
+use Rattle.scenario_run.specs.Held.{Place, Printed, CutShort}
 use Rattle.commands.specs.NodeFiles.{ReadFile, ReadsNone, Made, made_in}
 use Rattle.commands.specs.declared.status.Status.{Status}
 use Rattle.commands.specs.declared.status.Status.TheVariants.{Done, Nodes, Halted, Stream}

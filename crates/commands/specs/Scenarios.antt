@@ -4,14 +4,14 @@ use Rattle.server_core.specs.World.{opening}
 use Rattle.server_core.specs.declared.world.World.{World}
 use Rattle.server_core.specs.declared.event.Event.{Event}
 use Rattle.scenario_text.specs.declared.fault.AsmFault.{AsmFault}
-use Rattle.scenario_events.specs.Assembly.{events_of}
-use Rattle.scenario_lines.specs.Held.{Place, EventsPrinted}
-use Rattle.scenario_lines.specs.Runs.{RunPrinted}
-use Rattle.scenario_lines.specs.declared.held.PrintFault.{PrintFault}
-use Rattle.scenario_lines.specs.declared.held.PrintFault.TheVariants as print
-use Rattle.scenario_lines.specs.declared.runs.Lines.{Lines}
-use Rattle.scenario_lines.specs.declared.runs.RunFault.{RunFault}
-use Rattle.scenario_lines.specs.declared.runs.RunFault.TheVariants as fault
+use Rattle.scenario_run.specs.Assembly.{events_of}
+use Rattle.scenario_run.specs.Held.{Place, EventsPrinted}
+use Rattle.scenario_run.specs.Runs.{RunPrinted}
+use Rattle.scenario_run.specs.declared.held.PrintFault.{PrintFault}
+use Rattle.scenario_run.specs.declared.held.PrintFault.TheVariants as print
+use Rattle.scenario_run.specs.declared.runs.Lines.{Lines}
+use Rattle.scenario_run.specs.declared.runs.RunFault.{RunFault}
+use Rattle.scenario_run.specs.declared.runs.RunFault.TheVariants as fault
 use Rattle.commands.specs.NodeFiles.{ReadFile, ReadsNone, Made, made_in}
 use Rattle.commands.specs.declared.status.Status.{Status}
 use Rattle.commands.specs.declared.status.Status.TheVariants.{Done, Nodes, Scenario, Halted, Stream}

@@ -14,8 +14,8 @@ use Rattle.ua_types.specs.Moments.{later}
 use Rattle.ua_types.specs.declared.moment.Moment.{Moment}
 use Rattle.ua_space.specs.Nodes.{SpaceState}
 use Rattle.socket_server.specs.Keeping.{Keeping, keeping_all}
-use Rattle.scenario_lines.specs.TraceText.{rows_text}
-use Rattle.scenario_lines.specs.Held.{Place}
+use Rattle.scenario_run.specs.TraceText.{rows_text}
+use Rattle.scenario_run.specs.Held.{Place}
 use Rattle.socket_server.specs.Sockets.{ServeState, IsUnserved}
 use Rattle.socket_server.specs.Serving.{IsServed, IsStopped, IsOutside}
 use Rattle.socket_server.specs.Output.{Output, EventText, no_output}

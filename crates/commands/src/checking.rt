@@ -1,6 +1,6 @@
 //! `check` of a node file, and what it explains.
 
-ghost use Rattle.scenario_lines.specs.Held.{place};
+ghost use Rattle.scenario_run.specs.Held.{place};
 ghost use Rattle.commands.specs.Commands.{ChecksFile};
 
 use crate::program::{Ended, check, read_file};

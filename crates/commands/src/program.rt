@@ -3,7 +3,7 @@
 ghost use Rattle.std.specs.Prelude.{◌≡◌, Option, Some, None, IfOk, IfErr, map, option_map, string_bytes};
 ghost use Rattle.server_core.specs.World.{world_of};
 ghost use Rattle.ua_space.specs.Build.{space_of};
-ghost use Rattle.scenario_lines.specs.Held.{place};
+ghost use Rattle.scenario_run.specs.Held.{place};
 ghost use Rattle.commands.specs.NodeFiles.{Made, ReadsNone, built, made_in, made_of_none};
 ghost use Rattle.commands.specs.Said.{MadeBy, Says};
 ghost use Rattle.commands.specs.Commands.{Checks, opened, status_of, Pipes, PipesMade, PipesFile, Runs};
@@ -16,7 +16,7 @@ use crate::status::Status;
 use crate::text_file::{FileFault, TextFile};
 use command_line::{Command, Stop, parse};
 use node_loader::{Cause, Loaded, load};
-use scenario_lines::Lines;
+use scenario_run::Lines;
 use server_core::{Event, Server, StepFault};
 use std::alloc::{AllocError, Global};
 use std::io::{Read, Write};

@@ -1,15 +1,14 @@
 //! What the commands do that take a scenario.
 
 ghost use Rattle.std.specs.Prelude.{◌≡◌};
-ghost use Rattle.scenario_events.specs.Assembly.{events_of};
-ghost use Rattle.scenario_lines.specs.Held.{place};
+ghost use Rattle.scenario_run.specs.Assembly.{events_of};
+ghost use Rattle.scenario_run.specs.Held.{place};
 ghost use Rattle.commands.specs.Scenarios.{AssembledBy, Assembles, AssemblesFile, Tells, TellsFile, TellsFiles, status_printed, status_told};
 
 use crate::program::{Ended, no_memory, nodes_in, read_file, step_fault, stream};
 use crate::status::Status;
 use crate::text_file::TextFile;
-use scenario_events::assemble;
-use scenario_lines::{Lines, PrintFault, RunFault, print_events, print_run};
+use scenario_run::{Lines, PrintFault, RunFault, assemble, print_events, print_run};
 use scenario_text::Cause;
 use server_core::{Event, Server};
 use std::alloc::Global;

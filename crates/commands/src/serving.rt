@@ -5,7 +5,7 @@ ghost use Rattle.server_core.specs.World.{opening};
 ghost use Rattle.socket_server.specs.Keeping.{keeping, keeping_all};
 ghost use Rattle.socket_server.specs.Sockets.{key_stream};
 ghost use Rattle.socket_server.specs.Serving.{scene, unknown, uncounted, ServesUntil, GivesUp};
-ghost use Rattle.scenario_lines.specs.Held.{place};
+ghost use Rattle.scenario_run.specs.Held.{place};
 ghost use Rattle.commands.specs.NodeFiles.{Made};
 ghost use Rattle.commands.specs.Said.{MadeBy};
 ghost use Rattle.commands.specs.Serving.{BeginsWithStore, Restores, IsUnopened, ServesWith, ServesOn, ServesBy, ServesMade, ServesFile, status_served, status_stored};
@@ -434,7 +434,7 @@ fn serve_begun<R: Files + Net + RandomSource + Clock + Wait, K: Keeper + Drop, O
 /// kept and isn't put back is told on standard error, a line for each value.
 ///
 /// With a trace the rows of the subscriptions' state table that fire follow, a line for each, in the form of
-/// [`scenario_lines`]. The events that the server is handed count from 1 on.
+/// [`scenario_run`]. The events that the server is handed count from 1 on.
 ///
 /// `Done` comes after the turns, or where it was asked to stop, `Network` where the port or the address can't be had, or where the system
 /// refuses the wait, the clock or random bytes, and `Halted` where memory ran out or the server halted. `Stream`

@@ -2,8 +2,8 @@
 //! the subscriptions' state table that fire on standard output.
 
 ghost use Rattle.std.specs.Prelude.{ℕ, []};
-ghost use Rattle.scenario_lines.specs.TraceText.{rows_text};
-ghost use Rattle.scenario_lines.specs.Held.{place};
+ghost use Rattle.scenario_run.specs.TraceText.{rows_text};
+ghost use Rattle.scenario_run.specs.Held.{place};
 ghost use Rattle.socket_server.specs.Output.{PutsOrFails, no_output};
 ghost use Rattle.commands.specs.Serving.{output_at};
 
@@ -11,8 +11,8 @@ use crate::ends::{tell_end, tell_status};
 use crate::frames::{Refusal, refusal_among};
 use crate::process::Process;
 use crate::summary::Summary;
-use number_slots::Numbered;
-use scenario_lines::{PrintFault, put_rows};
+use collections::Numbered;
+use scenario_run::{PrintFault, put_rows};
 use server_core::{Fired, Out, Server};
 use socket_server::{End, Observer, Serve, ServeFault};
 use std::alloc::Global;

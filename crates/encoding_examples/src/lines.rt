@@ -11,10 +11,9 @@ use ua_messages::*;
 use ua_service_messages::*;
 use ua_subscription_messages::*;
 use ua_types::{
-    Array, ByteString, Copyable, Duration, ExpandedNodeId, ExtensionObject, Guid, LocalizedText,
-    Moment, NodeId, QualifiedName, Status, Text, write_id,
+    Array, ByteString, Copyable, DataValue, Double, Duration, ExpandedNodeId, ExtensionObject,
+    Float, Guid, LocalizedText, Moment, NodeId, QualifiedName, Status, Text, Variant, write_id,
 };
-use ua_values::{DataValue, Double, Float, Variant};
 use ua_views::*;
 
 // What was read, how it is written again, and how many bytes are left.

@@ -11,10 +11,9 @@ use ua_service_messages::{
     WriteValueView,
 };
 use ua_types::{
-    Array, ByteString, Duration, ExpandedNodeId, ExtensionObject, LocalizedText, Moment, NodeId,
-    QualifiedName, Status, Text,
+    Array, ByteString, DataValue, Duration, ExpandedNodeId, ExtensionObject, LocalizedText, Moment,
+    NodeId, QualifiedName, Status, Text, Variant,
 };
-use ua_values::{DataValue, Variant};
 use ua_views::{
     ArrayView, ByteStringView, DataValueView, ExpandedNodeIdView, ExtensionObjectView,
     LocalizedTextView, NodeIdView, QualifiedNameView, TextView, VariantView, View,

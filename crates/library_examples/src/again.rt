@@ -17,8 +17,7 @@ use std::rt::Files;
 use ua_binary::{Cursor, TakeFault, Wire};
 use ua_history::{History, Interval, KeptRuns, KeptValues};
 use ua_session::{Created, Sessions};
-use ua_types::{Config, Moment, NodeId, Refusal, Status};
-use ua_values::{Content, DataValue, Variant};
+use ua_types::{Config, Content, DataValue, Moment, NodeId, Refusal, Status, Variant};
 
 // What is printed where a call that is made again runs out of memory again.
 const TWICE: &[u8] = b"out of memory again\n";

@@ -5,8 +5,7 @@ use crate::holding::holds;
 use bytes::Bytes;
 use std::alloc::Global;
 use std::test::*;
-use ua_channel::{Channel, SendFault};
-use ua_tcp::{Agreed, ChunkType, Frame, Limits, MessageType};
+use ua_transport::{Agreed, Channel, ChunkType, Frame, Limits, MessageType, SendFault};
 use ua_types::{Refusal, Status};
 
 // Frames of 65,536 bytes from the client, and of 1,024 to it.

@@ -6,8 +6,10 @@ use std::alloc::{AllocError, Global};
 use std::test::*;
 use ua_history::{History, Interval, KeptRuns, KeptValues};
 use ua_space::{Node, NodeDetails, Space, ValueRank, Variable};
-use ua_types::{Config, Listed, LocalizedText, Moment, NodeId, QualifiedName, Status, Text};
-use ua_values::{Content, DataValue, Variant};
+use ua_types::{
+    Config, Content, DataValue, Listed, LocalizedText, Moment, NodeId, QualifiedName, Status, Text,
+    Variant,
+};
 
 fn counted(number: u16, source_time: Option<Moment>) -> DataValue {
     DataValue {

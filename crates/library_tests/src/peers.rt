@@ -2,8 +2,8 @@
 
 use crate::holding::holds;
 use bytes::Bytes;
+use collections::ShortList;
 use server_messages::Out;
-use short_lists::ShortList;
 use socket_peers::{End, Heard, Limits, Peer, Peers, Readiness, Socket};
 use std::alloc::Global;
 use std::io;

@@ -1,7 +1,7 @@
 //! Limits of an address space, what its faults print where no node file has them, and a type of lists, which no node file makes.
 
 use crate::holding::holds;
-use number_slots::Near;
+use collections::Near;
 use std::alloc::{AllocError, Global};
 use std::test::*;
 use ua_binary::{Cursor, Wire as _, Written as _};

@@ -1,7 +1,6 @@
 use crate::holding::holds;
 use std::test::*;
-use ua_types::SharedList;
-use ua_values::{Content, Shape, Variant};
+use ua_types::{Content, Shape, SharedList, Variant};
 
 #[test]
 fn shapes_and_numbers_of_types(rt: HostRuntime) {

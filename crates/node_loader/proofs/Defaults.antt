@@ -3,15 +3,15 @@ use Rattle.std.proofs.Common.{◌≡◌, ℕ, ◌^◌, nat_lt, codes, Bool, true
 use Rattle.toml.specs.Data.{boolean, member, no_members, string}
 use Rattle.ua_types.specs.declared.moment.Moment.{Moment}
 use Rattle.ua_types.specs.declared.node_id.NodeId.{NodeId}
-use Rattle.ua_values.specs.declared.content.Content.TheVariants.{Scalar}
-use Rattle.ua_values.specs.declared.variant.Variant.TheVariants as variants
+use Rattle.ua_types.specs.declared.content.Content.TheVariants.{Scalar}
+use Rattle.ua_types.specs.declared.variant.Variant.TheVariants as variants
 use Rattle.ua_space.specs.declared.node.NodeDetails.TheVariants as details
 use Rattle.ua_space.specs.declared.node.ValueRank.TheVariants as ranks
 use Rattle.ua_space.specs.declared.triple.Part.{Part}
 use Rattle.node_loader.specs.Past.{history_of}
 use Rattle.node_loader.specs.declared.version.Version.{Version}
 use Rattle.node_loader.specs.declared.version.Version.TheVariants.{One, Two}
-use Rattle.ua_values.specs.ValueTypes.{value_type_named}
+use Rattle.ua_types.specs.ValueTypes.{value_type_named}
 use Rattle.node_loader.specs.Ids.{id_at, id_or, id_if_any, id_within}
 use Rattle.node_loader.specs.Keys.{list_at, text_at, text_or, number_at, required_word, required_text, required_boolean, boolean_at}
 use Rattle.node_loader.specs.Node.{class_of, names_of, place_of, type_at, form_of, variable_of, object_of, variable_node_of, object_type_of, variable_type_of, reference_type_of, data_type_of, rest_of, node_of}

@@ -16,9 +16,9 @@ use Rattle.ua_types.specs.declared.node_class.NodeClass.TheVariants as classes
 use Rattle.ua_types.specs.declared.node_id.NodeId.{NodeId}
 use Rattle.ua_types.specs.declared.number_range.NumberRange.{NumberRange}
 use Rattle.ua_types.specs.declared.number_range.TheConstants.NumberRange as ranges
-use Rattle.ua_values.specs.ValueTypes.{type_number}
-use Rattle.ua_values.specs.declared.value_type.ValueType.{ValueType}
-use Rattle.ua_values.specs.declared.variant.Variant.{Variant}
+use Rattle.ua_types.specs.ValueTypes.{type_number}
+use Rattle.ua_types.specs.declared.value_type.ValueType.{ValueType}
+use Rattle.ua_types.specs.declared.variant.Variant.{Variant}
 use Rattle.ua_space.specs.declared.node.NodeDetails.TheVariants as details
 use Rattle.ua_space.specs.declared.node.ValueRank.TheVariants as ranks
 use Rattle.ua_space.specs.declared.node.Node.{Node}

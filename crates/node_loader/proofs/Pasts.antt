@@ -6,7 +6,7 @@ use Rattle.toml.specs.View.{view, items_view}
 use Rattle.toml.specs.declared.value.Value.{Value}
 use Rattle.toml.proofs.Views.{items_view-drop}
 use Rattle.ua_types.specs.Answers.{◌>>=◌}
-use Rattle.ua_values.specs.declared.data_value.DataValue.{DataValue}
+use Rattle.ua_types.specs.declared.data_value.DataValue.{DataValue}
 use Rattle.node_loader.specs.Lists.{after}
 use Rattle.node_loader.specs.Past.{listed_past_of, pasts_of}
 use Rattle.node_loader.specs.declared.fault.Cause.{Cause}

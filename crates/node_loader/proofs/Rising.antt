@@ -9,7 +9,7 @@ use Rattle.ua_types.specs.declared.node_class.NodeClass.{NodeClass}
 use Rattle.ua_types.specs.declared.node_class.NodeClass.TheVariants as classes
 use Rattle.ua_types.specs.declared.node_id.NodeId.{NodeId}
 use Rattle.ua_types.specs.declared.number_range.NumberRange.{NumberRange}
-use Rattle.ua_values.specs.declared.data_value.DataValue.{DataValue}
+use Rattle.ua_types.specs.declared.data_value.DataValue.{DataValue}
 use Rattle.ua_space.proofs.Histories.{still_later}
 use Rattle.ua_space.specs.Histories.{are_later, is_historizing, is_history, is_none, rises}
 use Rattle.ua_space.specs.declared.node.Node.{Node}

@@ -2,10 +2,10 @@
 use Rattle.std.proofs.Common.{◌≡◌, ℕ, ◌^◌, nat_lt, codes, true, List, Option, Some, None, Result, Ok, Err, refl, subst, inl, inr}
 use Rattle.std.proofs.lemmas.Bool.{cases_Bool}
 use Rattle.toml.specs.Data.{Items, Members, as_array, get_member}
-use Rattle.ua_values.specs.ValueTypes.{type_number}
-use Rattle.ua_values.specs.declared.content.Content.{Content}
-use Rattle.ua_values.specs.declared.content.Content.TheVariants.{Array}
-use Rattle.ua_values.specs.declared.variant.Variant.{Variant}
+use Rattle.ua_types.specs.ValueTypes.{type_number}
+use Rattle.ua_types.specs.declared.content.Content.{Content}
+use Rattle.ua_types.specs.declared.content.Content.TheVariants.{Array}
+use Rattle.ua_types.specs.declared.variant.Variant.{Variant}
 use Rattle.ua_space.specs.declared.node.ValueRank.{ValueRank}
 use Rattle.ua_space.specs.declared.node.ValueRank.TheVariants as ranks
 use Rattle.ua_space.specs.Variables.{is_of, has_rank}
@@ -14,8 +14,8 @@ use Rattle.node_loader.specs.Keys.{of_kind, required}
 use Rattle.node_loader.specs.Lists.{all_items, count}
 use Rattle.ua_types.specs.Answers.{◌>>=◌}
 use Rattle.node_loader.specs.declared.fault.Cause.{Cause}
-use Rattle.ua_values.specs.declared.value_type.ValueType.{ValueType}
-use Rattle.ua_values.specs.declared.value_type.ValueType.TheVariants as types
+use Rattle.ua_types.specs.declared.value_type.ValueType.{ValueType}
+use Rattle.ua_types.specs.declared.value_type.ValueType.TheVariants as types
 
 seen_as : {A : Type 0} (n : ℕ) (kind : A → Variant) (read : Result A Cause) (v : Variant) → ((x : A) → is_of n ranks.Scalar (kind x) ≡ true) → seen kind read ≡ Ok v → is_of n ranks.Scalar v ≡ true
 seen_as n kind (Ok x) v right e =

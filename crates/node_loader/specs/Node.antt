@@ -7,9 +7,9 @@ use Rattle.ua_types.specs.declared.moment.Moment.{Moment}
 use Rattle.ua_types.specs.declared.node_class.NodeClass.{NodeClass}
 use Rattle.ua_types.specs.declared.node_class.NodeClass.TheVariants as classes
 use Rattle.ua_types.specs.declared.node_id.NodeId.{NodeId}
-use Rattle.ua_values.specs.DataValues.{value_since}
-use Rattle.ua_values.specs.ValueTypes.{type_number}
-use Rattle.ua_values.specs.declared.variant.Variant.{Variant}
+use Rattle.ua_types.specs.DataValues.{value_since}
+use Rattle.ua_types.specs.ValueTypes.{type_number}
+use Rattle.ua_types.specs.declared.variant.Variant.{Variant}
 use Rattle.ua_space.specs.declared.node.NodeDetails.TheVariants as details
 use Rattle.ua_space.specs.declared.node.NodeDetails.{NodeDetails}
 use Rattle.ua_space.specs.declared.node.ValueRank.{ValueRank}
@@ -32,7 +32,7 @@ use Rattle.node_loader.specs.declared.node.Place.{Place}
 use Rattle.node_loader.specs.declared.past.Setting.{Setting}
 use Rattle.node_loader.specs.declared.version.Version.{Version}
 use Rattle.node_loader.specs.declared.version.Version.TheVariants.{One, Two}
-use Rattle.ua_values.specs.declared.value_type.ValueType.{ValueType}
+use Rattle.ua_types.specs.declared.value_type.ValueType.{ValueType}
 
 -- the class that a word names
 unfoldable pub class_of : List ℕ → Result NodeClass Cause

@@ -4,8 +4,8 @@ use Rattle.toml.specs.Data.{Items, no_items, item, Members, as_table}
 use Rattle.ua_types.specs.Answers.{◌>>=◌}
 use Rattle.ua_types.specs.declared.moment.Moment.{Moment}
 use Rattle.ua_types.specs.declared.number_range.NumberRange.{NumberRange}
-use Rattle.ua_values.specs.declared.data_value.DataValue.{DataValue}
-use Rattle.ua_values.specs.declared.variant.Variant.{Variant}
+use Rattle.ua_types.specs.declared.data_value.DataValue.{DataValue}
+use Rattle.ua_types.specs.declared.variant.Variant.{Variant}
 use Rattle.node_loader.specs.Keys.{list_at, number_at, only, required_number, up_to}
 use Rattle.node_loader.specs.Lists.{count}
 use Rattle.node_loader.specs.Value.{ranked_value}

@@ -3,10 +3,10 @@ use Rattle.std.specs.Prelude.{◌≡◌, ℕ, ◌^◌, nat_lt, List, codes, [], 
 use Rattle.toml.specs.Data.{Members, no_members, member, string, boolean}
 use Rattle.ua_types.specs.NodeIds.{numeric_id}
 use Rattle.ua_types.specs.declared.node_id.NodeId.{NodeId}
-use Rattle.ua_values.specs.ValueTypes.{type_number}
-use Rattle.ua_values.specs.declared.content.Content.TheVariants.{Scalar}
-use Rattle.ua_values.specs.declared.variant.Variant.{Variant}
-use Rattle.ua_values.specs.declared.variant.Variant.TheVariants as variants
+use Rattle.ua_types.specs.ValueTypes.{type_number}
+use Rattle.ua_types.specs.declared.content.Content.TheVariants.{Scalar}
+use Rattle.ua_types.specs.declared.variant.Variant.{Variant}
+use Rattle.ua_types.specs.declared.variant.Variant.TheVariants as variants
 use Rattle.ua_space.specs.Variables.{is_of}
 use Rattle.ua_space.specs.declared.node.Node.{Node}
 use Rattle.ua_space.specs.declared.node.NodeDetails.{NodeDetails}
@@ -19,7 +19,7 @@ use Rattle.node_loader.specs.Node.{node_of, place_of}
 use Rattle.node_loader.specs.Value.{ranked_value}
 use Rattle.node_loader.specs.declared.node.Entry.{Entry}
 use Rattle.node_loader.specs.declared.past.Setting.{Setting}
-use Rattle.ua_values.specs.declared.value_type.ValueType.{ValueType}
+use Rattle.ua_types.specs.declared.value_type.ValueType.{ValueType}
 
 -- the keys that every node must have
 abbrev pub least : List ℕ → List ℕ → List ℕ → Members → Members

@@ -5,11 +5,11 @@ use Rattle.hex.specs.Hex.{decode_of}
 use Rattle.toml.specs.Data.{Data, Items, Members, get_member, as_array, as_bool, as_integer, as_str}
 use Rattle.ua_types.specs.Guids.{guid_said}
 use Rattle.ua_types.specs.declared.guid.Guid.{Guid}
-use Rattle.ua_values.specs.ValueTypes.{value_type_named}
-use Rattle.ua_values.specs.declared.content.Content.{Content}
-use Rattle.ua_values.specs.declared.content.Content.TheVariants.{Array, Scalar}
-use Rattle.ua_values.specs.declared.variant.Variant.{Variant}
-use Rattle.ua_values.specs.declared.variant.Variant.TheVariants as variants
+use Rattle.ua_types.specs.ValueTypes.{value_type_named}
+use Rattle.ua_types.specs.declared.content.Content.{Content}
+use Rattle.ua_types.specs.declared.content.Content.TheVariants.{Array, Scalar}
+use Rattle.ua_types.specs.declared.variant.Variant.{Variant}
+use Rattle.ua_types.specs.declared.variant.Variant.TheVariants as variants
 use Rattle.ua_types.specs.Answers.{◌>>=◌}
 use Rattle.ua_space.specs.declared.node.ValueRank.{ValueRank}
 use Rattle.ua_space.specs.declared.node.ValueRank.TheVariants as ranks
@@ -19,8 +19,8 @@ use Rattle.node_loader.specs.Lists.{all_items, count}
 use Rattle.node_loader.specs.Keys.{of_kind, required, required_boolean, required_integer, required_text, required_word, signed_at, unsigned_at}
 use Rattle.node_loader.specs.declared.fault.Cause.{Cause}
 use Rattle.node_loader.specs.declared.fault.Cause.TheVariants.{OutOfRange, WrongKind}
-use Rattle.ua_values.specs.declared.value_type.ValueType.{ValueType}
-use Rattle.ua_values.specs.declared.value_type.ValueType.TheVariants as types
+use Rattle.ua_types.specs.declared.value_type.ValueType.{ValueType}
+use Rattle.ua_types.specs.declared.value_type.ValueType.TheVariants as types
 
 -- the type that a word names
 abbrev pub type_of : List ℕ → Result ValueType Cause

@@ -8,8 +8,8 @@ use Rattle.ua_types.specs.declared.node_class.NodeClass.{NodeClass}
 use Rattle.ua_types.specs.declared.node_class.NodeClass.TheVariants as classes
 use Rattle.ua_types.specs.declared.node_id.NodeId.{NodeId}
 use Rattle.ua_types.specs.declared.number_range.NumberRange.{NumberRange}
-use Rattle.ua_values.specs.DataValues.{value_since}
-use Rattle.ua_values.specs.ValueTypes.{type_number}
+use Rattle.ua_types.specs.DataValues.{value_since}
+use Rattle.ua_types.specs.ValueTypes.{type_number}
 use Rattle.ua_space.specs.declared.node.Node.{Node}
 use Rattle.ua_space.specs.declared.node.NodeDetails.TheVariants as details
 use Rattle.ua_space.specs.declared.node.ValueRank.TheVariants as ranks

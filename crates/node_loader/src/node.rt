@@ -9,8 +9,8 @@ ghost use Rattle.ua_types.specs.Answers.{Gives};
 ghost use Rattle.node_loader.specs.declared.fault.Cause.TheVariants as Cause;
 ghost use Rattle.node_loader.specs.declared.fault.Cause.TheVariants.{Memory};
 ghost use Rattle.node_loader.specs.Keys.{only, required_word};
-ghost use Rattle.ua_values.specs.DataValues.{value_since};
-ghost use Rattle.ua_values.specs.ValueTypes.{type_number};
+ghost use Rattle.ua_types.specs.DataValues.{value_since};
+ghost use Rattle.ua_types.specs.ValueTypes.{type_number};
 ghost use Rattle.node_loader.specs.Node.{class_of, keys_of, names_of, place_of, parent_triple, definition_triple, entry_from, type_at, rank_of, form_of, plain_kind, variable_with, variable_of, object_of, variable_node_of, object_type_of, variable_type_of, reference_type_of, data_type_of, kind_of, rest_of, node_of, entry_of};
 
 use crate::fault::Cause;
@@ -28,9 +28,9 @@ use ua_space::standard_ids::{
 };
 use ua_space::{Node, NodeDetails, Part, Triple, ValueRank, Variable};
 use ua_types::{
-    Copyable, Listed, LocalizedText, Moment, NodeClass, NodeId, NumberRange, QualifiedName, Text,
+    Copyable, DataValue, Listed, LocalizedText, Moment, NodeClass, NodeId, NumberRange,
+    QualifiedName, Text, ValueType, Variant,
 };
-use ua_values::{DataValue, ValueType, Variant};
 
 // The class that a word names.
 #[tactic(auto, unfolding(crate::specs::Node::class_of))]

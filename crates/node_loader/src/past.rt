@@ -15,8 +15,7 @@ use crate::value::{Form, ranked_value};
 use crate::version::Version;
 use std::alloc::Global;
 use toml::{Table, Value};
-use ua_types::{Listed, Moment, NumberRange, Status};
-use ua_values::{DataValue, Variant};
+use ua_types::{DataValue, Listed, Moment, NumberRange, Status, Variant};
 
 /// What the file and the server's table say that nodes depend on.
 #[derive(Clone, Copy, Debug)]

@@ -21,8 +21,7 @@ use crate::keys::{
 use std::alloc::Global;
 use toml::{Table, Value};
 use ua_space::ValueRank;
-use ua_types::{ByteString, Guid, Moment, SharedList, Status, Text};
-use ua_values::{Content, ValueType, Variant};
+use ua_types::{ByteString, Content, Guid, Moment, SharedList, Status, Text, ValueType, Variant};
 
 /// What the values of a variable, or of those of a type, are: their type, and one or a list.
 #[derive(Clone, Copy, Debug)]

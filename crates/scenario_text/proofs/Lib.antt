@@ -3,3 +3,4 @@ pub mod Entries
 pub mod Lines
 pub mod Fronts
 pub mod ElementLists
+pub mod BodiesAgain

@@ -12,8 +12,8 @@ use Rattle.ua_types.specs.declared.guid.Guid.{Guid}
 use Rattle.ua_types.specs.declared.moment.Moment.{Moment}
 use Rattle.ua_types.specs.declared.node_id.NodeId.{NodeId}
 use Rattle.ua_types.specs.declared.status.Status.{Status}
-use Rattle.ua_values.specs.declared.content.Content.{Content}
-use Rattle.ua_values.specs.declared.content.Content.TheVariants.{Scalar, Array}
+use Rattle.ua_types.specs.declared.content.Content.{Content}
+use Rattle.ua_types.specs.declared.content.Content.TheVariants.{Scalar, Array}
 use Rattle.scenario_text.specs.Numbers.{signed_of, truth_of, named_id}
 use Rattle.scenario_text.specs.declared.fault.Cause.{Cause}
 use Rattle.scenario_text.specs.declared.fault.Cause.TheVariants.{Value}

@@ -9,3 +9,6 @@ pub mod Requests
 pub mod Verbs
 pub mod Statements
 pub mod Scenarios
+pub mod Bodies
+pub mod Structures
+pub mod Messages

@@ -4,17 +4,17 @@ use Rattle.std.specs.Option.{ok_or}
 use Rattle.hex.specs.Hex.{decode_of, decode_sized}
 use Rattle.hex.specs.declared.error.FromHexError.{FromHexError}
 use Rattle.ua_types.specs.IdTexts.{behind, or_else}
-use Rattle.ua_values.specs.ValueTypes.{value_type_named}
-use Rattle.ua_values.specs.declared.content.Content.TheVariants.{Scalar}
-use Rattle.ua_values.specs.declared.variant.Variant.{Variant}
-use Rattle.ua_values.specs.declared.variant.Variant.TheVariants as variants
+use Rattle.ua_types.specs.ValueTypes.{value_type_named}
+use Rattle.ua_types.specs.declared.content.Content.TheVariants.{Scalar}
+use Rattle.ua_types.specs.declared.variant.Variant.{Variant}
+use Rattle.ua_types.specs.declared.variant.Variant.TheVariants as variants
 use Rattle.scenario_text.specs.Elements.{seen, octets_of, boolean_of, sbyte_of, byte_of, int16_of, uint16_of, int32_of, uint32_of, int64_of, uint64_of, moment_of, guid_of, byte_string_of, node_id_of, status_of, content_of}
 use Rattle.scenario_text.specs.Readings.{Reading, ◌>>=◌, done, judged}
 use Rattle.scenario_text.specs.Words.{Spelled, has, before, behind_first, spelled, word, text}
 use Rattle.scenario_text.specs.declared.fault.Cause.{Cause}
 use Rattle.scenario_text.specs.declared.fault.Cause.TheVariants.{Word, Value}
-use Rattle.ua_values.specs.declared.value_type.ValueType.{ValueType}
-use Rattle.ua_values.specs.declared.value_type.ValueType.TheVariants as types
+use Rattle.ua_types.specs.declared.value_type.ValueType.{ValueType}
+use Rattle.ua_types.specs.declared.value_type.ValueType.TheVariants as types
 
 -- a connection's key of 32 bytes
 abbrev pub key_of : Result (List ℕ) FromHexError → Result (List ℕ) Cause

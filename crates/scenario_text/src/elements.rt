@@ -10,8 +10,7 @@ ghost use Rattle.scenario_text.specs.Elements.{octets_of, boolean_of, sbyte_of, 
 use crate::fault::Cause;
 use crate::numbers::{named_id, signed, truth};
 use std::alloc::{AllocError, Global};
-use ua_types::{ByteString, Guid, Moment, NodeId, SharedList, Status, decimal_up_to};
-use ua_values::Content;
+use ua_types::{ByteString, Content, Guid, Moment, NodeId, SharedList, Status, decimal_up_to};
 
 /// A value of a type that a text says, alone or as an element of a list.
 pub(crate) trait Element: Drop {

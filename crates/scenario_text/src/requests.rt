@@ -9,8 +9,7 @@ use crate::numbers::signed;
 use crate::phrases::Phrase;
 use crate::words::Words;
 use std::alloc::Global;
-use ua_types::{Moment, NodeId, behind, decimal_up_to};
-use ua_values::Variant;
+use ua_types::{Moment, NodeId, Variant, behind, decimal_up_to};
 
 /// An attribute of a node (ReadValueId, IEC 62541-4, section 7).
 #[derive(Debug, Drop)]

@@ -12,8 +12,9 @@ use crate::fault::Cause;
 use crate::phrases::Phrase;
 use crate::words::Words;
 use std::alloc::Global;
-use ua_types::{ByteString, Guid, Moment, NodeId, Status, Text, behind};
-use ua_values::{Content, ValueType, Variant};
+use ua_types::{
+    ByteString, Content, Guid, Moment, NodeId, Status, Text, ValueType, Variant, behind,
+};
 
 /// The next word as bytes in hex digits.
 #[tactic(auto, unfolding(crate::specs::Values::octets_reading))]

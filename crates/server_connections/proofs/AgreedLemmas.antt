@@ -9,31 +9,31 @@ use Rattle.ua_binary.specs.declared.fault.TakeFault.{TakeFault}
 use Rattle.ua_types.specs.Configuration.{Configuration, IsWithin}
 use Rattle.ua_types.specs.declared.moment.Moment.{Moment}
 use Rattle.ua_messages.specs.ServiceFaults.{fault_body}
-use Rattle.ua_tcp.specs.Agreements.{Limitation, AreInRange, Agreement, IsAgreement, agreement_of, is_longer_than, is_too_small, is_hello, outcome_of, outcome_of_reading, outcome_of_frame}
-use Rattle.ua_tcp.specs.Hellos.{hello_reading}
-use Rattle.ua_tcp.specs.declared.hello_message.Hello.{Hello}
-use Rattle.ua_tcp.specs.declared.frame.Frame.{Frame}
-use Rattle.ua_tcp.specs.declared.frame.MessageType.{MessageType}
-use Rattle.ua_tcp.specs.declared.frame.MessageType.TheVariants.{Hello as HelloType, Acknowledge, Error, OpenSecureChannel, Message, CloseSecureChannel}
-use Rattle.ua_channel.specs.declared.headers.ChunkHeader.{ChunkHeader}
-use Rattle.ua_channel.specs.declared.headers.OpeningHeader.{OpeningHeader}
-use Rattle.ua_channel.specs.declared.openings.OpeningRequest.{OpeningRequest}
-use Rattle.ua_channel.specs.declared.taken.Taken.{Taken}
-use Rattle.ua_channel.specs.Headers.{opening_header_reading, part_of}
-use Rattle.ua_channel.specs.SequenceNumbers.{may_follow}
-use Rattle.ua_channel.specs.Messages.{UnfinishedMessage, joining_of, AreWithinLimits}
-use Rattle.ua_channel.specs.ChannelStates.{ChannelState, granted_by, granted_of, token_after}
-use Rattle.ua_channel.specs.Cutting.{send_of, send_opening_of}
-use Rattle.ua_channel.specs.declared.send_fault.SendFault.{SendFault}
-use Rattle.ua_channel.proofs.LimitLemmas.{kept_within}
+use Rattle.ua_transport.specs.Agreements.{Limitation, AreInRange, Agreement, IsAgreement, agreement_of, is_longer_than, is_too_small, is_hello, outcome_of, outcome_of_reading, outcome_of_frame}
+use Rattle.ua_transport.specs.Hellos.{hello_reading}
+use Rattle.ua_transport.specs.declared.hello_message.Hello.{Hello}
+use Rattle.ua_transport.specs.declared.frame.Frame.{Frame}
+use Rattle.ua_transport.specs.declared.frame.MessageType.{MessageType}
+use Rattle.ua_transport.specs.declared.frame.MessageType.TheVariants.{Hello as HelloType, Acknowledge, Error, OpenSecureChannel, Message, CloseSecureChannel}
+use Rattle.ua_transport.specs.declared.headers.ChunkHeader.{ChunkHeader}
+use Rattle.ua_transport.specs.declared.headers.OpeningHeader.{OpeningHeader}
+use Rattle.ua_transport.specs.declared.openings.OpeningRequest.{OpeningRequest}
+use Rattle.ua_transport.specs.declared.taken.Taken.{Taken}
+use Rattle.ua_transport.specs.Headers.{opening_header_reading, part_of}
+use Rattle.ua_transport.specs.SequenceNumbers.{may_follow}
+use Rattle.ua_transport.specs.Messages.{UnfinishedMessage, joining_of, AreWithinLimits}
+use Rattle.ua_transport.specs.ChannelStates.{ChannelState, granted_by, granted_of, token_after}
+use Rattle.ua_transport.specs.Cutting.{send_of, send_opening_of}
+use Rattle.ua_transport.specs.declared.send_fault.SendFault.{SendFault}
+use Rattle.ua_transport.proofs.LimitLemmas.{kept_within}
 use Rattle.server_messages.specs.declared.origin.Origin.{Origin}
 use Rattle.server_messages.specs.declared.reply.Reply.{Reply}
 use Rattle.server_messages.specs.declared.setting.Setting.{Setting}
 use Rattle.server_connections.specs.Coherent.{IsAgreed}
 use Rattle.server_connections.specs.Delivering.{too_large_sent, reply_sent}
 use Rattle.server_connections.specs.Reactions.{Sent, sent_nothing, sent_or, opening_body, opening_sent, granted}
-use Rattle.ua_channel.specs.Openings.{is_policy_none, opening_request_of, renewal_of}
-use Rattle.ua_channel.specs.Acceptance.{admission_of, with_unfinished, message_taken, close_taken, renewal_taken, request_taken, opening_by, opening_taken, taken_by_type, is_error, comes_by_channel, acceptance_of, kept_refusal, unless_refused, take_of}
+use Rattle.ua_transport.specs.Openings.{is_policy_none, opening_request_of, renewal_of}
+use Rattle.ua_transport.specs.Acceptance.{admission_of, with_unfinished, message_taken, close_taken, renewal_taken, request_taken, opening_by, opening_taken, taken_by_type, is_error, comes_by_channel, acceptance_of, kept_refusal, unless_refused, take_of}
 
 -- what was agreed, and the channel's number
 abbrev fixed : ChannelState → Agreement × Option ℕ

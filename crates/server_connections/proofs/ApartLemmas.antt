@@ -5,11 +5,11 @@ use Rattle.ua_types.specs.Answers.{Step}
 use Rattle.ua_types.specs.declared.moment.Moment.{Moment}
 use Rattle.ua_types.specs.declared.status.TheConstants.Status as status
 use Rattle.ua_messages.specs.ServiceFaults.{fault_body}
-use Rattle.ua_tcp.specs.declared.frame.Frame.{Frame}
-use Rattle.ua_tcp.specs.declared.frame.FrameFault.{FrameFault}
-use Rattle.ua_channel.specs.ChannelStates.{ChannelState}
-use Rattle.ua_channel.specs.Cutting.{send_of}
-use Rattle.ua_channel.specs.declared.send_fault.SendFault.{SendFault}
+use Rattle.ua_transport.specs.declared.frame.Frame.{Frame}
+use Rattle.ua_transport.specs.declared.frame.FrameFault.{FrameFault}
+use Rattle.ua_transport.specs.ChannelStates.{ChannelState}
+use Rattle.ua_transport.specs.Cutting.{send_of}
+use Rattle.ua_transport.specs.declared.send_fault.SendFault.{SendFault}
 use Rattle.server_messages.specs.declared.origin.Origin.{Origin}
 use Rattle.server_messages.specs.declared.reply.Reply.{Reply}
 use Rattle.server_messages.specs.declared.setting.Setting.{Setting}
@@ -22,8 +22,8 @@ use Rattle.server_connections.specs.Connecting.{reacted, taking_by, taking_of, b
 use Rattle.server_connections.specs.Delivering.{said_by, too_large_sent, reply_sent, delivered_to, delivered, delivery_of}
 use Rattle.server_connections.specs.Apart.{unsent_channel, unsent_phase, unsent, with_known, KeepsOthers}
 use Rattle.server_connections.proofs.CoherentLemmas.{at_insert_at}
-use Rattle.number_slots.proofs.NumberMaps.{get_inserted_elsewhere}
-use Rattle.number_slots.proofs.NumberMaps.{get_inserted}
+use Rattle.collections.proofs.NumberMaps.{get_inserted_elsewhere}
+use Rattle.collections.proofs.NumberMaps.{get_inserted}
 
 -- ---- frames
 

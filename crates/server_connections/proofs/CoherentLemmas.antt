@@ -11,15 +11,15 @@ use Rattle.std.specs.declared.cmp.Ordering.TheVariants.{Less, Equal, Greater}
 use Rattle.std.specs.FinMap.{nat_cmp-IsAntisymmetric, FinMap, get, insert, remove, get-insert, get-remove}
 use Rattle.ua_types.specs.Configuration.{Configuration}
 use Rattle.ua_types.specs.declared.status.Status.{Status}
-use Rattle.ua_tcp.specs.Agreements.{Agreement, AreInRange, limits_of, outcome_of_frame}
-use Rattle.ua_tcp.specs.declared.frame.Frame.{Frame}
-use Rattle.ua_tcp.specs.declared.frame.FrameFault.{FrameFault}
-use Rattle.ua_tcp.specs.declared.frame.FrameFault.TheVariants.{Letters, Size, Failed}
-use Rattle.ua_channel.specs.declared.taken.Taken.{Taken}
-use Rattle.ua_channel.specs.declared.taken.Taken.TheVariants as taken
-use Rattle.ua_channel.specs.ChannelStates.{ChannelState}
-use Rattle.ua_channel.specs.Acceptance.{is_error, take_of}
-use Rattle.ua_channel.specs.Cutting.{written_id}
+use Rattle.ua_transport.specs.Agreements.{Agreement, AreInRange, limits_of, outcome_of_frame}
+use Rattle.ua_transport.specs.declared.frame.Frame.{Frame}
+use Rattle.ua_transport.specs.declared.frame.FrameFault.{FrameFault}
+use Rattle.ua_transport.specs.declared.frame.FrameFault.TheVariants.{Letters, Size, Failed}
+use Rattle.ua_transport.specs.declared.taken.Taken.{Taken}
+use Rattle.ua_transport.specs.declared.taken.Taken.TheVariants as taken
+use Rattle.ua_transport.specs.ChannelStates.{ChannelState}
+use Rattle.ua_transport.specs.Acceptance.{is_error, take_of}
+use Rattle.ua_transport.specs.Cutting.{written_id}
 use Rattle.server_messages.specs.declared.origin.Origin.{Origin}
 use Rattle.server_messages.specs.declared.reply.Reply.{Reply}
 use Rattle.server_messages.specs.declared.setting.Setting.{Setting}
@@ -35,8 +35,8 @@ use Rattle.server_connections.specs.Connecting.{Taking, is_known, is_new, is_abo
 use Rattle.server_connections.specs.Delivering.{Delivery, said_by, reply_sent, delivered_on, delivered_to, delivered, delivery_of}
 use Rattle.server_connections.specs.Coherent.{IsAgreed, IsAgreedIn, IsAgreedAt, AreAgreed, is_talking, has_channel, Talks, IsFresh, is_going_on, is_open_at, is_open}
 use Rattle.server_connections.proofs.AgreedLemmas.{of_unchanged, of_taken, good_frame, IsGood, reply_unchanged, granted_unchanged}
-use Rattle.number_slots.proofs.NumberMaps.{get_inserted_elsewhere, get_removed_elsewhere}
-use Rattle.number_slots.proofs.NumberMaps.{get_inserted}
+use Rattle.collections.proofs.NumberMaps.{get_inserted_elsewhere, get_removed_elsewhere}
+use Rattle.collections.proofs.NumberMaps.{get_inserted}
 
 -- ---- one connection set
 

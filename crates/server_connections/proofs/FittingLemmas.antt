@@ -13,10 +13,10 @@ use Rattle.ua_messages.specs.Diagnostics.{diagnostic_info_encoding}
 use Rattle.ua_messages.specs.Headers.{response_header_encoding}
 use Rattle.ua_messages.specs.SecureChannels.{open_secure_channel_response_encoding}
 use Rattle.ua_messages.specs.ServiceFaults.{service_fault_encoding, fault_body}
-use Rattle.ua_tcp.specs.Agreements.{IsAgreement}
-use Rattle.ua_channel.specs.ChannelStates.{ChannelState}
-use Rattle.ua_channel.specs.Cutting.{send_of, send_opening_of}
-use Rattle.ua_channel.proofs.FittingLemmas.{fits, opening_fits}
+use Rattle.ua_transport.specs.Agreements.{IsAgreement}
+use Rattle.ua_transport.specs.ChannelStates.{ChannelState}
+use Rattle.ua_transport.specs.Cutting.{send_of, send_opening_of}
+use Rattle.ua_transport.proofs.FittingLemmas.{fits, opening_fits}
 use Rattle.std.specs.Prelude.{Option, Some, None}
 use Rattle.ua_types.specs.Configuration.{Configuration}
 use Rattle.server_connections.specs.Coherent.{IsAgreedIn, IsAgreedAt, AlwaysFitIn, AlwaysFitAt}

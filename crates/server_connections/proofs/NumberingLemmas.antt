@@ -7,27 +7,27 @@ use Rattle.ua_types.specs.Answers.{Step}
 use Rattle.ua_types.specs.declared.status.Status.{Status}
 use Rattle.ua_types.specs.declared.status.TheConstants.Status as status
 use Rattle.ua_binary.specs.declared.fault.TakeFault.{TakeFault}
-use Rattle.ua_tcp.specs.Agreements.{Agreement, Limitation, limits_of, outcome_of_frame}
-use Rattle.ua_tcp.specs.declared.frame.ChunkType.{ChunkType}
-use Rattle.ua_tcp.specs.declared.frame.ChunkType.TheVariants.{Intermediate, Final, Aborted}
-use Rattle.ua_tcp.specs.declared.frame.Frame.{Frame}
-use Rattle.ua_tcp.specs.declared.frame.FrameFault.{FrameFault}
-use Rattle.ua_tcp.specs.declared.frame.FrameFault.TheVariants.{Letters, Size, Failed}
-use Rattle.ua_tcp.specs.declared.frame.MessageType.{MessageType}
-use Rattle.ua_tcp.specs.declared.frame.MessageType.TheVariants.{Hello as HelloType, Acknowledge, Error, OpenSecureChannel, Message, CloseSecureChannel}
-use Rattle.ua_channel.specs.declared.headers.ChunkHeader.{ChunkHeader}
-use Rattle.ua_channel.specs.declared.headers.OpeningHeader.{OpeningHeader}
-use Rattle.ua_channel.specs.declared.openings.OpeningRequest.{OpeningRequest}
-use Rattle.ua_channel.specs.declared.send_fault.SendFault.{SendFault}
-use Rattle.ua_channel.specs.declared.taken.Taken.{Taken}
-use Rattle.ua_channel.specs.declared.taken.Taken.TheVariants as taken
-use Rattle.ua_channel.specs.Headers.{opening_header_reading, part_of}
-use Rattle.ua_channel.specs.SequenceNumbers.{may_follow}
-use Rattle.ua_channel.specs.Messages.{UnfinishedMessage, may_join, extended, exceeds_limits, joined_as, joining_of}
-use Rattle.ua_channel.specs.ChannelStates.{ChannelState, is_channel, granted_by, granted_of, token_after}
-use Rattle.ua_channel.specs.Cutting.{written_id, send_opening_of}
-use Rattle.ua_channel.specs.Openings.{is_open as is_opened, is_issue, is_renew, is_mode_none, is_policy_none, opening_request_of, renewal_of}
-use Rattle.ua_channel.specs.Acceptance.{admission_of, with_unfinished, message_taken, close_taken, renewal_taken, request_taken, opening_by, opening_taken, taken_by_type, is_error, comes_by_channel, acceptance_of, unless_refused, take_of}
+use Rattle.ua_transport.specs.Agreements.{Agreement, Limitation, limits_of, outcome_of_frame}
+use Rattle.ua_transport.specs.declared.frame.ChunkType.{ChunkType}
+use Rattle.ua_transport.specs.declared.frame.ChunkType.TheVariants.{Intermediate, Final, Aborted}
+use Rattle.ua_transport.specs.declared.frame.Frame.{Frame}
+use Rattle.ua_transport.specs.declared.frame.FrameFault.{FrameFault}
+use Rattle.ua_transport.specs.declared.frame.FrameFault.TheVariants.{Letters, Size, Failed}
+use Rattle.ua_transport.specs.declared.frame.MessageType.{MessageType}
+use Rattle.ua_transport.specs.declared.frame.MessageType.TheVariants.{Hello as HelloType, Acknowledge, Error, OpenSecureChannel, Message, CloseSecureChannel}
+use Rattle.ua_transport.specs.declared.headers.ChunkHeader.{ChunkHeader}
+use Rattle.ua_transport.specs.declared.headers.OpeningHeader.{OpeningHeader}
+use Rattle.ua_transport.specs.declared.openings.OpeningRequest.{OpeningRequest}
+use Rattle.ua_transport.specs.declared.send_fault.SendFault.{SendFault}
+use Rattle.ua_transport.specs.declared.taken.Taken.{Taken}
+use Rattle.ua_transport.specs.declared.taken.Taken.TheVariants as taken
+use Rattle.ua_transport.specs.Headers.{opening_header_reading, part_of}
+use Rattle.ua_transport.specs.SequenceNumbers.{may_follow}
+use Rattle.ua_transport.specs.Messages.{UnfinishedMessage, may_join, extended, exceeds_limits, joined_as, joining_of}
+use Rattle.ua_transport.specs.ChannelStates.{ChannelState, is_channel, granted_by, granted_of, token_after}
+use Rattle.ua_transport.specs.Cutting.{written_id, send_opening_of}
+use Rattle.ua_transport.specs.Openings.{is_open as is_opened, is_issue, is_renew, is_mode_none, is_policy_none, opening_request_of, renewal_of}
+use Rattle.ua_transport.specs.Acceptance.{admission_of, with_unfinished, message_taken, close_taken, renewal_taken, request_taken, opening_by, opening_taken, taken_by_type, is_error, comes_by_channel, acceptance_of, unless_refused, take_of}
 use Rattle.server_messages.specs.declared.origin.Origin.{Origin}
 use Rattle.server_messages.specs.declared.setting.Setting.{Setting}
 use Rattle.server_connections.specs.Apart.{unsent_phase, unsent}

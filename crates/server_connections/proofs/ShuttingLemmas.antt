@@ -5,7 +5,7 @@ use Rattle.std.specs.FinMap.{find, get, insert, entries, get-entries, get-insert
 use Rattle.std.specs.Map.{keys_of}
 use Rattle.std.specs.Ordering.{nat_cmp, eq_by_cmp}
 use Rattle.std.specs.Cmp.{nat_cmp_total}
-use Rattle.number_slots.proofs.NumberMaps.{same_number, insert_same}
+use Rattle.collections.proofs.NumberMaps.{same_number, insert_same}
 use Rattle.ua_types.specs.Configuration.{Configuration}
 use Rattle.server_connections.specs.Coherent.{IsAgreedAt, AreAgreed, IsFresh, AreNumbered, number_at, is_going_on, is_open_at, is_open, AreAllClosed}
 use Rattle.server_connections.specs.Connecting.{is_new, refusing}

@@ -1,7 +1,7 @@
 -- What the bytes of one connection leave of the others.
 use Rattle.std.specs.Prelude.{◌≡◌, ◌≢◌, ◌==◌, ℕ, Bool, Option, Some, None}
 use Rattle.std.specs.FinMap.{get}
-use Rattle.ua_channel.specs.ChannelStates.{ChannelState}
+use Rattle.ua_transport.specs.ChannelStates.{ChannelState}
 use Rattle.server_messages.specs.declared.reply.Reply.{Reply}
 use Rattle.server_connections.specs.declared.connection.Connection.{Connection}
 use Rattle.server_connections.specs.declared.connection.Phase.{Phase}

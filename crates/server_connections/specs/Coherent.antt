@@ -5,12 +5,12 @@ use Rattle.ua_types.specs.Configuration.{Configuration}
 use Rattle.ua_types.specs.declared.moment.Moment.{Moment}
 use Rattle.ua_types.specs.declared.status.Status.{Status}
 use Rattle.ua_messages.specs.ServiceFaults.{fault_body}
-use Rattle.ua_tcp.specs.Agreements.{IsAgreement, limits_of}
-use Rattle.ua_channel.specs.Cutting.{send_of, send_opening_of}
+use Rattle.ua_transport.specs.Agreements.{IsAgreement, limits_of}
+use Rattle.ua_transport.specs.Cutting.{send_of, send_opening_of}
 use Rattle.server_messages.specs.declared.setting.Setting.{Setting}
 use Rattle.server_connections.specs.Reactions.{opening_body}
-use Rattle.ua_channel.specs.ChannelStates.{ChannelState}
-use Rattle.ua_channel.specs.Messages.{AreWithinLimits}
+use Rattle.ua_transport.specs.ChannelStates.{ChannelState}
+use Rattle.ua_transport.specs.Messages.{AreWithinLimits}
 use Rattle.server_connections.specs.declared.connection.Connection.{Connection}
 use Rattle.server_connections.specs.declared.connection.Phase.{Phase}
 use Rattle.server_connections.specs.declared.connection.Phase.TheVariants.{Talking, Closed}

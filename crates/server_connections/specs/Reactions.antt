@@ -6,16 +6,16 @@ use Rattle.ua_messages.specs.Bodies.{body_encoding}
 use Rattle.ua_messages.specs.Headers.{plain_header}
 use Rattle.ua_messages.specs.SecureChannels.{open_secure_channel_response_encoding}
 use Rattle.ua_messages.specs.declared.type_ids.TheConstants.{OPEN_SECURE_CHANNEL_RESPONSE}
-use Rattle.ua_tcp.specs.Agreements.{Agreement, limits_of, outcome_of_frame, acknowledge_encoding, error_encoding}
-use Rattle.ua_tcp.specs.declared.frame.Frame.{Frame}
-use Rattle.ua_tcp.specs.declared.frame.FrameFault.{FrameFault}
-use Rattle.ua_tcp.specs.declared.frame.FrameFault.TheVariants.{Letters, Size, Failed}
-use Rattle.ua_channel.specs.declared.send_fault.SendFault.{SendFault}
-use Rattle.ua_channel.specs.declared.taken.Taken.{Taken}
-use Rattle.ua_channel.specs.declared.taken.Taken.TheVariants as taken
-use Rattle.ua_channel.specs.ChannelStates.{ChannelState, new_channel, token_after, granted_of}
-use Rattle.ua_channel.specs.Acceptance.{is_error, take_of}
-use Rattle.ua_channel.specs.Cutting.{written_id, send_opening_of}
+use Rattle.ua_transport.specs.Agreements.{Agreement, limits_of, outcome_of_frame, acknowledge_encoding, error_encoding}
+use Rattle.ua_transport.specs.declared.frame.Frame.{Frame}
+use Rattle.ua_transport.specs.declared.frame.FrameFault.{FrameFault}
+use Rattle.ua_transport.specs.declared.frame.FrameFault.TheVariants.{Letters, Size, Failed}
+use Rattle.ua_transport.specs.declared.send_fault.SendFault.{SendFault}
+use Rattle.ua_transport.specs.declared.taken.Taken.{Taken}
+use Rattle.ua_transport.specs.declared.taken.Taken.TheVariants as taken
+use Rattle.ua_transport.specs.ChannelStates.{ChannelState, new_channel, token_after, granted_of}
+use Rattle.ua_transport.specs.Acceptance.{is_error, take_of}
+use Rattle.ua_transport.specs.Cutting.{written_id, send_opening_of}
 use Rattle.server_messages.specs.declared.origin.Origin.{Origin}
 use Rattle.server_messages.specs.declared.setting.Setting.{Setting}
 use Rattle.server_messages.specs.declared.request.Request.{Request}

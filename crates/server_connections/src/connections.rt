@@ -13,11 +13,10 @@ use crate::frame_outcome::FrameOutcome;
 use crate::reactions::{Sender, break_off, frame_reaction, put_refusal};
 use crate::sending::say;
 use crate::shutting::close_open;
-use number_slots::Numbered;
+use collections::{Numbered, ShortList};
 use server_messages::{Out, Reply, Setting};
-use short_lists::ShortList;
 use std::alloc::{AllocError, Global};
-use ua_tcp::{Frame, FrameFault};
+use ua_transport::{Frame, FrameFault};
 use ua_types::Status;
 
 /// Who is connected, and what was agreed with each.

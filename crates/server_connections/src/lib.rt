@@ -5,7 +5,7 @@
 //! channels, joins chunks and refuses what has to be refused. [`Connections::deliver`] sends replies,
 //! each on the connection that its request came by. Nothing here knows of sessions, nodes and
 //! services, nor of the bytes of a frame that is still to come: framers are kept beside, in a
-//! [`number_slots::Numbered`] of their own.
+//! [`collections::Numbered`] of their own.
 //!
 //! What a contract sees: the known connections under their numbers, the greatest number, and the number of
 //! channels.

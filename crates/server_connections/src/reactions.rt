@@ -6,12 +6,13 @@ ghost use Rattle.server_connections.specs.Reactions.{reaction, reaction_after, c
 use crate::connection::Phase;
 use crate::frame_outcome::FrameOutcome;
 use bytes::Bytes;
+use collections::ShortList;
 use server_messages::{Origin, Out, Request, Setting};
-use short_lists::ShortList;
 use std::alloc::{AllocError, Global};
-use ua_channel::{Channel, SendFault, Taken};
 use ua_messages::{MessageBody, OpenSecureChannelResponse, ResponseHeader, body, type_ids};
-use ua_tcp::{Agreed, Frame, FrameFault, Limits, MessageType, ack, err, hello};
+use ua_transport::{
+    Agreed, Channel, Frame, FrameFault, Limits, MessageType, SendFault, Taken, ack, err, hello,
+};
 use ua_types::{ByteString, Refusal, Status};
 
 // The connection is to be closed.

@@ -6,11 +6,11 @@ ghost use Rattle.server_connections.specs.Delivering.{too_large_sent, reply_sent
 use crate::connection::Phase;
 use crate::reactions::send_all;
 use bytes::Bytes;
+use collections::ShortList;
 use server_messages::{Origin, Out, Reply, Setting};
-use short_lists::ShortList;
 use std::alloc::{AllocError, Global};
-use ua_channel::{Channel, SendFault};
 use ua_messages::fault;
+use ua_transport::{Channel, SendFault};
 use ua_types::{Moment, Status};
 
 // The fault that is sent in the place of a reply that is too large for the client.

@@ -6,8 +6,8 @@ ghost use Rattle.server_connections.specs.Shutting.{shut_by, said_behind};
 
 use crate::connection::Phase;
 use crate::reactions::put_refusal;
+use collections::ShortList;
 use server_messages::Out;
-use short_lists::ShortList;
 use std::alloc::{AllocError, Global};
 use ua_types::Status;
 

@@ -2,12 +2,12 @@
 use Rattle.std.proofs.Common.{◌≡◌, ℕ, Bool, true, false, cond, List, [], ◌∷◌, ◌++◌, filter, Option, Some, None, refl, sym, ◌∙◌, ap, subst}
 use Rattle.std.specs.Ordering.{nat_cmp}
 use Rattle.std.specs.FinMap.{FinMap, get, remove}
-use Rattle.ua_tcp.specs.Feeding.{Framing, framed_of}
-use Rattle.ua_tcp.specs.Frames.{End, Rest, Broken}
-use Rattle.ua_tcp.specs.Pieces.{Done, Stepped, and_then, all_handled, at_end}
-use Rattle.ua_tcp.specs.declared.frame.Frame.{Frame}
-use Rattle.ua_tcp.specs.declared.frame.FrameFault.{FrameFault}
-use Rattle.number_slots.proofs.NumberMaps.{get_inserted, get_removed}
+use Rattle.ua_transport.specs.Feeding.{Framing, framed_of}
+use Rattle.ua_transport.specs.Frames.{End, Rest, Broken}
+use Rattle.ua_transport.specs.Pieces.{Done, Stepped, and_then, all_handled, at_end}
+use Rattle.ua_transport.specs.declared.frame.Frame.{Frame}
+use Rattle.ua_transport.specs.declared.frame.FrameFault.{FrameFault}
+use Rattle.collections.proofs.NumberMaps.{get_inserted, get_removed}
 use Rattle.server_messages.specs.declared.reply.Reply.{Reply}
 use Rattle.server_messages.specs.declared.setting.Setting.{Setting}
 use Rattle.server_connections.specs.Apart.{SeesAlike, is_on, is_for}

@@ -3,10 +3,10 @@ use Rattle.std.proofs.Common.{◌≡◌, ◌≢◌, ℕ, Bool, true, List, Optio
 use Rattle.std.specs.Prelude.{⊤}
 use Rattle.std.specs.Ordering.{nat_cmp}
 use Rattle.std.specs.FinMap.{FinMap, get, remove}
-use Rattle.ua_tcp.specs.Feeding.{Framing, framed_of}
-use Rattle.ua_tcp.specs.Pieces.{all_handled, at_end}
-use Rattle.ua_tcp.specs.declared.frame.Frame.{Frame}
-use Rattle.ua_tcp.specs.declared.frame.FrameFault.{FrameFault}
+use Rattle.ua_transport.specs.Feeding.{Framing, framed_of}
+use Rattle.ua_transport.specs.Pieces.{all_handled, at_end}
+use Rattle.ua_transport.specs.declared.frame.Frame.{Frame}
+use Rattle.ua_transport.specs.declared.frame.FrameFault.{FrameFault}
 use Rattle.server_connections.specs.Apart as connections
 use Rattle.server_connections.specs.Apart.{unsent, with_known}
 use Rattle.server_connections.specs.Connecting.{is_known, taking_of, break_of}
@@ -15,7 +15,7 @@ use Rattle.server_connections.specs.declared.frame_outcome.FrameOutcome.TheVaria
 use Rattle.server_connections.specs.declared.connections.Connections.{Connections}
 use Rattle.server_messages.specs.declared.out.Out.{Out}
 use Rattle.server_connections.proofs.ApartLemmas.{taking_apart, break_apart, delivery_apart, then_sent}
-use Rattle.number_slots.proofs.NumberMaps.{get_inserted_elsewhere, get_removed_elsewhere}
+use Rattle.collections.proofs.NumberMaps.{get_inserted_elsewhere, get_removed_elsewhere}
 use Rattle.ua_services.specs.declared.services.Services.{Services}
 use Rattle.ua_services.specs.Services.{serving_of}
 use Rattle.server_core.specs.Apart.{with_parts, KeepsOthers}

@@ -11,11 +11,11 @@ use Rattle.ua_types.specs.Configuration.{Configuration, IsConfigured}
 use Rattle.ua_types.specs.declared.moment.Moment.{Moment}
 use Rattle.ua_types.specs.declared.status.Status.{Status}
 use Rattle.ua_types.specs.declared.status.TheConstants.Status as status
-use Rattle.ua_tcp.specs.Agreements.{AreInRange, limits_of}
-use Rattle.ua_tcp.specs.Feeding.{Framing, unfed, framed_of}
-use Rattle.ua_tcp.specs.Pieces.{all_handled, at_end}
-use Rattle.ua_tcp.specs.declared.frame.Frame.{Frame}
-use Rattle.ua_tcp.specs.declared.frame.FrameFault.{FrameFault}
+use Rattle.ua_transport.specs.Agreements.{AreInRange, limits_of}
+use Rattle.ua_transport.specs.Feeding.{Framing, unfed, framed_of}
+use Rattle.ua_transport.specs.Pieces.{all_handled, at_end}
+use Rattle.ua_transport.specs.declared.frame.Frame.{Frame}
+use Rattle.ua_transport.specs.declared.frame.FrameFault.{FrameFault}
 use Rattle.server_messages.specs.declared.reply.Reply.{Reply}
 use Rattle.server_messages.specs.declared.setting.Setting.{Setting}
 use Rattle.server_connections.specs.Coherent.{IsAgreedIn, IsAgreedAt, AreAgreed, Talks, IsFresh, AreNumbered, number_in, number_at, is_open_at, is_open}
@@ -30,7 +30,7 @@ use Rattle.server_connections.specs.declared.connection.Phase.TheVariants.{Greet
 use Rattle.server_connections.specs.declared.connections.Connections.{Connections}
 use Rattle.server_messages.specs.declared.out.Out.{Out}
 use Rattle.server_connections.proofs.CoherentLemmas.{FitsAt, IsDelivered, taken_right, broken_right, broken_closes, delivered_right, opened_agreed, opened_talks, opened_open, opened_fresh, gone_agreed, gone_talks, gone_open, gone_fresh, talks_open}
-use Rattle.number_slots.proofs.NumberMaps.{same_number, numbers_same}
+use Rattle.collections.proofs.NumberMaps.{same_number, numbers_same}
 use Rattle.ua_services.specs.declared.services.Services.{Services}
 use Rattle.ua_space.specs.Nodes.{SpaceState}
 use Rattle.ua_services.specs.Owing.{OwesOnly, ServesOnly}

@@ -2,11 +2,11 @@
 use Rattle.std.proofs.Common.{◌≡◌, ℕ, List, ◌++◌, Option, Some, None, refl, sym, ◌∙◌, ap, append-nil}
 use Rattle.std.specs.Ordering.{nat_cmp}
 use Rattle.std.specs.FinMap.{FinMap, get, insert, remove}
-use Rattle.ua_tcp.specs.Feeding.{Framing, framed_of}
-use Rattle.ua_tcp.specs.Pieces.{Stepped, all_handled, at_end, piece_on, piece_served, then_step}
-use Rattle.ua_tcp.specs.declared.frame.FrameFault.TheVariants.{Failed}
-use Rattle.ua_tcp.proofs.PiecesLemmas.{cut_held}
-use Rattle.number_slots.proofs.NumberMaps.{get_inserted, get_removed, remove_inserted}
+use Rattle.ua_transport.specs.Feeding.{Framing, framed_of}
+use Rattle.ua_transport.specs.Pieces.{Stepped, all_handled, at_end, piece_on, piece_served, then_step}
+use Rattle.ua_transport.specs.declared.frame.FrameFault.TheVariants.{Failed}
+use Rattle.ua_transport.proofs.PiecesLemmas.{cut_held}
+use Rattle.collections.proofs.NumberMaps.{get_inserted, get_removed, remove_inserted}
 use Rattle.server_core.specs.Effects.{Effect}
 use Rattle.server_core.specs.World.{World, Core}
 use Rattle.server_core.specs.Handling.{handled, broken}

@@ -10,7 +10,7 @@ use Rattle.server_messages.specs.declared.stored.Stored.{Stored}
 use Rattle.server_connections.specs.Delivering.{Delivery}
 use Rattle.ua_services.specs.Serving as serving
 use Rattle.ua_services.specs.Serving.{Occurrence, Fire, Store, Spent, rows_of, is_spent}
-use Rattle.ua_tcp.specs.Pieces.{Done, after_outs, and_then}
+use Rattle.ua_transport.specs.Pieces.{Done, after_outs, and_then}
 use Rattle.server_core.specs.declared.out.Step.{Step}
 use Rattle.server_core.specs.Effects.{Effect, Do, Occurred, Lost, doing, occurring, losing, effects_of, outs_of, fired_of, stored_of, is_spending, are_spent, step, no_step, shown, after_step}
 use Rattle.server_messages.specs.declared.halt.Halt.{Halt}

@@ -7,14 +7,14 @@ use Rattle.server_core.specs.Faults.{fault_of}
 use Rattle.std.proofs.lemmas.Bool.{false≢true}
 use Rattle.std.specs.Ordering.{nat_cmp}
 use Rattle.std.specs.FinMap.{FinMap, get, insert, remove}
-use Rattle.number_slots.proofs.NumberMaps.{insert_removed, remove_given}
-use Rattle.ua_tcp.specs.Feeding.{Feeding, Framing, feeding, feeding_of, framed_of}
-use Rattle.ua_tcp.specs.Frames.{End, Rest, Broken, held_at, fault_at}
-use Rattle.ua_tcp.specs.Pieces.{Done, Stepped, and_then, all_handled, refused_if, at_end}
-use Rattle.ua_tcp.specs.declared.frame.Frame.{Frame}
-use Rattle.ua_tcp.specs.declared.frame.FrameFault.{FrameFault}
-use Rattle.ua_tcp.specs.declared.framer.Fed.{Fed}
-use Rattle.ua_tcp.proofs.PiecesLemmas.{at_end_by_fault}
+use Rattle.collections.proofs.NumberMaps.{insert_removed, remove_given}
+use Rattle.ua_transport.specs.Feeding.{Feeding, Framing, feeding, feeding_of, framed_of}
+use Rattle.ua_transport.specs.Frames.{End, Rest, Broken, held_at, fault_at}
+use Rattle.ua_transport.specs.Pieces.{Done, Stepped, and_then, all_handled, refused_if, at_end}
+use Rattle.ua_transport.specs.declared.frame.Frame.{Frame}
+use Rattle.ua_transport.specs.declared.frame.FrameFault.{FrameFault}
+use Rattle.ua_transport.specs.declared.framer.Fed.{Fed}
+use Rattle.ua_transport.proofs.PiecesLemmas.{at_end_by_fault}
 use Rattle.server_messages.specs.declared.reply.Reply.{Reply}
 use Rattle.server_messages.specs.declared.request.Request.{Request}
 use Rattle.server_messages.specs.declared.served.Served.{Served}

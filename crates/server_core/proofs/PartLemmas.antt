@@ -4,14 +4,14 @@ use Rattle.std.specs.Ordering.{nat_cmp}
 use Rattle.std.specs.FinMap.{FinMap, get}
 use Rattle.std.proofs.lemmas.Bool.{and_parts, false≢true}
 use Rattle.ua_types.specs.declared.status.Status.{Status}
-use Rattle.ua_tcp.specs.Feeding.{Framing, framed_of}
-use Rattle.ua_tcp.specs.Frames.{End, Rest, Broken}
-use Rattle.ua_tcp.specs.Pieces.{Done, and_then, all_handled, at_end}
-use Rattle.ua_tcp.specs.declared.frame.Frame.{Frame}
-use Rattle.ua_channel.specs.declared.taken.Taken.{Taken}
-use Rattle.ua_channel.specs.declared.taken.Taken.TheVariants as taken
-use Rattle.ua_channel.specs.ChannelStates.{ChannelState}
-use Rattle.ua_channel.specs.Acceptance.{take_of}
+use Rattle.ua_transport.specs.Feeding.{Framing, framed_of}
+use Rattle.ua_transport.specs.Frames.{End, Rest, Broken}
+use Rattle.ua_transport.specs.Pieces.{Done, and_then, all_handled, at_end}
+use Rattle.ua_transport.specs.declared.frame.Frame.{Frame}
+use Rattle.ua_transport.specs.declared.taken.Taken.{Taken}
+use Rattle.ua_transport.specs.declared.taken.Taken.TheVariants as taken
+use Rattle.ua_transport.specs.ChannelStates.{ChannelState}
+use Rattle.ua_transport.specs.Acceptance.{take_of}
 use Rattle.server_messages.specs.declared.setting.Setting.{Setting}
 use Rattle.server_connections.specs.Connecting.{taking_by, taking_of, reacted}
 use Rattle.server_connections.specs.Reactions.{Counted, counted, reaction, taken_reaction, later_reaction, reaction_of}
@@ -19,7 +19,7 @@ use Rattle.server_connections.specs.declared.frame_outcome.FrameOutcome.TheVaria
 use Rattle.server_connections.specs.declared.connection.Connection.{Connection}
 use Rattle.server_connections.specs.declared.connection.Phase.{Phase}
 use Rattle.server_connections.specs.declared.connection.Phase.TheVariants.{Greeting, Talking, Closed}
-use Rattle.number_slots.proofs.NumberMaps.{get_inserted_elsewhere}
+use Rattle.collections.proofs.NumberMaps.{get_inserted_elsewhere}
 use Rattle.server_core.specs.Apart.{is_part_taken, is_part_in, is_part_of, are_parts, is_rest, completes_none_in, completes_none, with_connections_of, KeepsAllElse}
 use Rattle.server_core.specs.Effects.{Effect}
 use Rattle.server_core.specs.Handling.{handled_by, handled, broken}

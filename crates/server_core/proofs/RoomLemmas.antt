@@ -6,8 +6,8 @@ use Rattle.std.specs.Cmp.{nat_cmp_total}
 use Rattle.std.specs.FinMap.{FinMap, get, insert, remove, empty, len, contains_key, len-empty, len-insert, len-remove}
 use Rattle.ua_types.specs.Configuration.{Configuration}
 use Rattle.ua_space.specs.Nodes.{SpaceState}
-use Rattle.ua_tcp.specs.Feeding.{Framing, unfed}
-use Rattle.number_slots.proofs.NumberMaps.{insert_removed}
+use Rattle.ua_transport.specs.Feeding.{Framing, unfed}
+use Rattle.collections.proofs.NumberMaps.{insert_removed}
 use Rattle.server_core.specs.Stepping.{with_held, fed_to, fed, has_room, greeted, forgotten}
 use Rattle.server_core.specs.World.{World, opening}
 use Rattle.server_core.proofs.ApartLemmas.{fed_apart}

@@ -3,7 +3,7 @@ use Rattle.std.proofs.Common.{◌≡◌, Bool, true, false, if◌then◌else◌,
 use Rattle.server_core.specs.declared.out.StepFault.{StepFault}
 use Rattle.std.specs.Ordering.{nat_cmp}
 use Rattle.std.specs.FinMap.{FinMap, empty}
-use Rattle.ua_tcp.specs.Feeding.{Framing}
+use Rattle.ua_transport.specs.Feeding.{Framing}
 use Rattle.server_messages.specs.declared.halt.Halt.{Halt}
 use Rattle.server_messages.specs.declared.halt.Halt.TheVariants.{Memory, Exhausted}
 use Rattle.server_core.specs.Effects.{no_step, are_spent}

@@ -4,12 +4,12 @@ use Rattle.std.specs.FinMap.{get}
 use Rattle.server_connections.specs.Apart.{unsent, with_known, SeesAlike, is_on, is_for}
 use Rattle.server_connections.specs.Connecting.{is_known}
 use Rattle.ua_types.specs.declared.status.Status.{Status}
-use Rattle.ua_tcp.specs.Feeding.{Framing, framed_of}
-use Rattle.ua_tcp.specs.Frames.{End, Rest, Broken}
-use Rattle.ua_tcp.specs.declared.frame.Frame.{Frame}
-use Rattle.ua_channel.specs.declared.taken.Taken.{Taken}
-use Rattle.ua_channel.specs.declared.taken.Taken.TheVariants as taken
-use Rattle.ua_channel.specs.Acceptance.{take_of}
+use Rattle.ua_transport.specs.Feeding.{Framing, framed_of}
+use Rattle.ua_transport.specs.Frames.{End, Rest, Broken}
+use Rattle.ua_transport.specs.declared.frame.Frame.{Frame}
+use Rattle.ua_transport.specs.declared.taken.Taken.{Taken}
+use Rattle.ua_transport.specs.declared.taken.Taken.TheVariants as taken
+use Rattle.ua_transport.specs.Acceptance.{take_of}
 use Rattle.server_connections.specs.declared.connection.Connection.{Connection}
 use Rattle.server_connections.specs.declared.connection.Phase.{Phase}
 use Rattle.server_connections.specs.declared.connection.Phase.TheVariants.{Talking}

@@ -2,7 +2,7 @@
 use Rattle.std.specs.Prelude.{◌≡◌, ◌≤◌, ⊤, ℕ, true, false, List, [], ◌∷◌, Option, Some, None, is_some}
 use Rattle.std.specs.FinMap.{get, len}
 use Rattle.ua_types.specs.Configuration.{Configuration}
-use Rattle.ua_tcp.specs.Agreements.{AreInRange, limits_of}
+use Rattle.ua_transport.specs.Agreements.{AreInRange, limits_of}
 use Rattle.server_messages.specs.declared.reply.Reply.{Reply}
 use Rattle.ua_space.specs.Nodes.{SpaceState}
 use Rattle.server_connections.specs.Coherent.{AreAgreed, Talks, IsFresh, AreNumbered, is_open, AlwaysFitAt}

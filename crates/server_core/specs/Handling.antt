@@ -1,9 +1,9 @@
 -- What the server does about a frame.
 use Rattle.std.specs.Prelude.{◌≡◌, ⊤, ℕ, Bool, true, false, List, [], ◌++◌, Result, Ok, Err}
 use Rattle.ua_types.specs.declared.moment.Moment.{Moment}
-use Rattle.ua_tcp.specs.Pieces.{Done}
-use Rattle.ua_tcp.specs.declared.frame.Frame.{Frame}
-use Rattle.ua_tcp.specs.declared.frame.FrameFault.{FrameFault}
+use Rattle.ua_transport.specs.Pieces.{Done}
+use Rattle.ua_transport.specs.declared.frame.Frame.{Frame}
+use Rattle.ua_transport.specs.declared.frame.FrameFault.{FrameFault}
 use Rattle.server_messages.specs.declared.setting.Setting.{Setting}
 use Rattle.server_messages.specs.declared.halt.Halt.{Halt}
 use Rattle.server_messages.specs.declared.halt.Halt.TheVariants.{Memory, Exhausted}

@@ -7,8 +7,8 @@ use Rattle.ua_types.specs.Moments.{later}
 use Rattle.ua_types.specs.declared.moment.Moment.{Moment}
 use Rattle.ua_types.specs.declared.status.Status.{Status}
 use Rattle.ua_types.specs.declared.status.TheConstants.Status as status
-use Rattle.ua_tcp.specs.Feeding.{Framing, unfed, framed_of}
-use Rattle.ua_tcp.specs.Pieces.{Stepped, at_end, all_handled}
+use Rattle.ua_transport.specs.Feeding.{Framing, unfed, framed_of}
+use Rattle.ua_transport.specs.Pieces.{Stepped, at_end, all_handled}
 use Rattle.server_connections.specs.Connecting.{is_known, is_new, welcomed, turned_away}
 use Rattle.ua_services.specs.Services.{is_idle}
 use Rattle.server_core.specs.declared.event.Event.{Event}

@@ -5,8 +5,8 @@ ghost use Rattle.server_core.specs.declared.out.StepFault.TheVariants.{Memory};
 ghost use Rattle.server_core.specs.Effects.{step, no_step};
 ghost use Rattle.server_core.specs.Faults.{fault_of};
 
+use collections::ShortList;
 use server_messages::{Fired, Halt, Out, Stored};
-use short_lists::ShortList;
 use std::alloc::{AllocError, AllocFailed, Global};
 use thiserror::Error;
 use ua_types::Listed;

@@ -2,7 +2,7 @@
 
 ghost use Rattle.std.specs.Prelude.{◌≡◌, true, false, OnOk, IsOk};
 ghost use Rattle.ua_services.specs.Services.{is_idle};
-ghost use Rattle.ua_tcp.specs.Pieces.{all_handled, and_then, refused_if};
+ghost use Rattle.ua_transport.specs.Pieces.{all_handled, and_then, refused_if};
 ghost use Rattle.server_core.specs.Handling.{setting_at, Handles, Shows, TicksTo, handled, broken, gone_from, ticked_core, shut_core, Ends};
 
 use crate::out::Step;
@@ -10,7 +10,7 @@ use server_connections::{Connections, FrameOutcome};
 use server_messages::{Halt, Served, Setting};
 use std::alloc::{AllocError, Global};
 use ua_services::Services;
-use ua_tcp::{Fed, Frame, FrameFault};
+use ua_transport::{Fed, Frame, FrameFault};
 use ua_types::Moment;
 
 /// All but the framers.

@@ -13,7 +13,7 @@ use crate::out::{Ran, Step, StepFault};
 use crate::parts::Core;
 use crate::population::Population;
 use crate::world::World;
-use number_slots::Numbered;
+use collections::Numbered;
 use server_connections::Connections;
 use server_messages::Setting;
 use std::alloc::{AllocError, Global};

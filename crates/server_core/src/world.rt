@@ -10,9 +10,9 @@ use crate::event::Event;
 use crate::out::{Step, StepFault};
 use crate::parts::Core;
 use bytes::Bytes;
-use number_slots::Numbered;
+use collections::Numbered;
 use std::alloc::{AllocError, Global};
-use ua_tcp::Framer;
+use ua_transport::Framer;
 use ua_types::Status;
 
 /// The framers of the open connections, and the rest. So nothing but a framer touches the bytes that

@@ -4,7 +4,7 @@ use Rattle.std.specs.Prelude.{⊤, not, nat_lt}
 use Rattle.std.proofs.lemmas.Bool.{false≢true, not-true, not-false, ltb-true, ltb-false}
 use Rattle.std.proofs.lemmas.List.Sums.{fold-append}
 use Rattle.ua_types.specs.Configuration.{Configuration}
-use Rattle.ua_values.specs.declared.data_value.DataValue.{DataValue}
+use Rattle.ua_types.specs.declared.data_value.DataValue.{DataValue}
 use Rattle.ua_item_queue.specs.Causes.{GetsOnly, may_give}
 use Rattle.ua_item_queue.specs.Fates.{Fate, AccountEntry, IsKept, GoesOn, NewLossesAreMarked, account, account_after, accounted, any_marked, is_first_marked, entered, first_get, first_marked, is_waiting, is_lost, others_get, settled, waiting, with_fate}
 use Rattle.ua_item_queue.specs.Fates.Fate.{Waits, WasSent, WasLost, WasCleared}

@@ -15,7 +15,7 @@ use Rattle.ua_types.specs.NodeIdOrder.{id_cmp}
 use Rattle.ua_types.specs.declared.moment.Moment.{Moment}
 use Rattle.ua_types.specs.declared.node_id.NodeId.{NodeId}
 use Rattle.ua_types.specs.declared.status.TheConstants.Status as status
-use Rattle.ua_values.specs.declared.data_value.DataValue.{DataValue}
+use Rattle.ua_types.specs.declared.data_value.DataValue.{DataValue}
 use Rattle.ua_read_write.specs.declared.writing.Change.{Change}
 use Rattle.ua_history.specs.Histories.{HistoryState, Values, no_histories, kept_in, with_one, kept_at, kept, with_all, with_node}
 use Rattle.ua_history.proofs.Keeping.{keeps_within_bounds}

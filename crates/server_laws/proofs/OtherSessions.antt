@@ -6,7 +6,7 @@ use Rattle.std.specs.FinMap.{FinMap, get, remove, get-remove}
 use Rattle.std.specs.Ordering.{nat_cmp, eq_by_cmp}
 use Rattle.std.specs.Prelude.{⊤, IfOk, IfSome, nat_le}
 use Rattle.std.specs.Str.{bytes_eq}
-use Rattle.number_slots.proofs.NumberMaps.{get_inserted_elsewhere, get_removed_elsewhere}
+use Rattle.collections.proofs.NumberMaps.{get_inserted_elsewhere, get_removed_elsewhere}
 use Rattle.ua_types.specs.Answers.{Step}
 use Rattle.ua_types.specs.declared.moment.Moment.{Moment}
 use Rattle.ua_types.specs.declared.node_id.NodeId.{NodeId}

@@ -3,7 +3,7 @@ use Rattle.std.proofs.Common.{◌≡◌, ◌⊎◌, inl, inr, ℕ, Bool, List, [
 use Rattle.std.specs.List.{AllByRecursion, flat_map}
 use Rattle.ua_types.specs.Configuration.{Configuration}
 use Rattle.ua_space.specs.Nodes.{SpaceState}
-use Rattle.ua_values.specs.declared.data_value.DataValue.{DataValue}
+use Rattle.ua_types.specs.declared.data_value.DataValue.{DataValue}
 use Rattle.ua_item_queue.specs.Fates.Fate.{WasLost, WasCleared}
 use Rattle.ua_item_queue.specs.declared.entry.Entry.{Entry}
 use Rattle.ua_monitored_items.specs.Givings.{entries_of}

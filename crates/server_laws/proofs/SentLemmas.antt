@@ -10,14 +10,14 @@ use Rattle.ua_types.specs.Moments.{later}
 use Rattle.ua_types.specs.declared.status.TheConstants.Status as status
 use Rattle.ua_space.specs.Nodes.{SpaceState}
 use Rattle.ua_messages.specs.ServiceFaults.{fault_body}
-use Rattle.ua_tcp.specs.Agreements.{AreInRange, IsAgreement, limits_of}
-use Rattle.ua_tcp.specs.declared.frame.ChunkType.{ChunkType}
-use Rattle.ua_tcp.specs.declared.frame.ChunkType.TheVariants.{Intermediate, Final}
-use Rattle.ua_channel.specs.ChannelStates.{ChannelState}
-use Rattle.ua_channel.specs.Cutting.{chunk_encoding, next_header, Cut, cut_after, last_cut, cut_within, cut_of, room_of, is_too_large, header_of, sent_by}
-use Rattle.ua_channel.specs.declared.headers.ChunkHeader.{ChunkHeader}
-use Rattle.ua_channel.specs.declared.send_fault.SendFault.{SendFault}
-use Rattle.ua_channel.specs.declared.send_fault.SendFault.TheVariants.{TooLarge}
+use Rattle.ua_transport.specs.Agreements.{AreInRange, IsAgreement, limits_of}
+use Rattle.ua_transport.specs.declared.frame.ChunkType.{ChunkType}
+use Rattle.ua_transport.specs.declared.frame.ChunkType.TheVariants.{Intermediate, Final}
+use Rattle.ua_transport.specs.ChannelStates.{ChannelState}
+use Rattle.ua_transport.specs.Cutting.{chunk_encoding, next_header, Cut, cut_after, last_cut, cut_within, cut_of, room_of, is_too_large, header_of, sent_by}
+use Rattle.ua_transport.specs.declared.headers.ChunkHeader.{ChunkHeader}
+use Rattle.ua_transport.specs.declared.send_fault.SendFault.{SendFault}
+use Rattle.ua_transport.specs.declared.send_fault.SendFault.TheVariants.{TooLarge}
 use Rattle.ua_types.specs.Answers.{Step, step}
 use Rattle.server_messages.specs.declared.out.Out.{Out}
 use Rattle.server_messages.specs.declared.reply.Reply.{Reply}

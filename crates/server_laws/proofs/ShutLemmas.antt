@@ -10,7 +10,7 @@ use Rattle.ua_types.specs.Moments.{later}
 use Rattle.ua_types.specs.declared.moment.Moment.{Moment}
 use Rattle.ua_types.specs.declared.status.Status.{Status}
 use Rattle.ua_types.specs.declared.status.TheConstants.Status as status
-use Rattle.ua_tcp.specs.Feeding.{Framing}
+use Rattle.ua_transport.specs.Feeding.{Framing}
 use Rattle.server_messages.specs.declared.setting.Setting.{Setting}
 use Rattle.server_connections.specs.Connecting.{is_known, is_new}
 use Rattle.ua_space.specs.Nodes.{SpaceState}
@@ -39,7 +39,7 @@ use Rattle.server_core.specs.declared.out.StepFault.{StepFault}
 use Rattle.server_core.specs.declared.out.StepFault.TheVariants.{KnownConnection, UnknownConnection}
 use Rattle.server_core.specs.declared.world.World.{World}
 use Rattle.server_core.proofs.Keeping.{Kept, lift}
-use Rattle.number_slots.proofs.NumberMaps.{get_removed, get_removed_elsewhere}
+use Rattle.collections.proofs.NumberMaps.{get_removed, get_removed_elsewhere}
 use Rattle.server_laws.specs.EventMoves.{end_move, ticking_moves}
 use Rattle.server_laws.specs.Moving.{ComesOnBy, ran_at}
 use Rattle.server_laws.specs.Tables.{ItemsAreOfLive, IsEmptyOnceShut, ItemsHaveSubscriptions}

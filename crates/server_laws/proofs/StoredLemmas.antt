@@ -7,7 +7,7 @@ use Rattle.ua_types.specs.NodeIdOrder.{id_cmp, same_id}
 use Rattle.ua_types.specs.contracts.node_id.NodeIdOrd.TheImpl.Laws.{matches_eq-law, total-law}
 use Rattle.ua_types.specs.declared.moment.Moment.{Moment}
 use Rattle.ua_types.specs.declared.node_id.NodeId.{NodeId}
-use Rattle.ua_values.specs.declared.data_value.DataValue.{DataValue}
+use Rattle.ua_types.specs.declared.data_value.DataValue.{DataValue}
 use Rattle.ua_service_messages.specs.declared.writing.WriteValue.{WriteValue}
 use Rattle.ua_space.specs.Nodes.{Nodes, node_at}
 use Rattle.ua_space.specs.Values.{variable_in, variable_of, variable_at, value_at, holding}

@@ -5,10 +5,10 @@ use Rattle.ua_types.specs.Configuration.{Configuration}
 use Rattle.ua_types.specs.Moments.{later}
 use Rattle.ua_types.specs.declared.moment.Moment.{Moment}
 use Rattle.ua_space.specs.Nodes.{SpaceState}
-use Rattle.ua_tcp.specs.Feeding.{Framing, framed_of}
-use Rattle.ua_tcp.specs.Frames.{End, Rest, Broken}
-use Rattle.ua_tcp.specs.Pieces.{all_handled}
-use Rattle.ua_tcp.specs.declared.frame.Frame.{Frame}
+use Rattle.ua_transport.specs.Feeding.{Framing, framed_of}
+use Rattle.ua_transport.specs.Frames.{End, Rest, Broken}
+use Rattle.ua_transport.specs.Pieces.{all_handled}
+use Rattle.ua_transport.specs.declared.frame.Frame.{Frame}
 use Rattle.server_messages.specs.declared.request.Request.{Request}
 use Rattle.server_connections.specs.Connecting.{taking_of, break_of, gone}
 use Rattle.server_connections.specs.declared.connections.Connections.{Connections}

@@ -7,9 +7,9 @@ use Rattle.ua_types.specs.declared.moment.Moment.{Moment}
 use Rattle.ua_types.specs.declared.status.TheConstants.Status as status
 use Rattle.ua_space.specs.Nodes.{SpaceState}
 use Rattle.ua_messages.specs.ServiceFaults.{fault_body}
-use Rattle.ua_channel.specs.ChannelStates.{ChannelState}
-use Rattle.ua_channel.specs.Cutting.{send_of}
-use Rattle.ua_channel.specs.declared.send_fault.SendFault.TheVariants.{TooLarge}
+use Rattle.ua_transport.specs.ChannelStates.{ChannelState}
+use Rattle.ua_transport.specs.Cutting.{send_of}
+use Rattle.ua_transport.specs.declared.send_fault.SendFault.TheVariants.{TooLarge}
 use Rattle.server_messages.specs.declared.out.Out.{Out}
 use Rattle.server_messages.specs.declared.reply.Reply.{Reply}
 use Rattle.server_messages.specs.declared.setting.Setting.{Setting}

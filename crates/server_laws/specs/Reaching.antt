@@ -4,7 +4,7 @@ use Rattle.std.specs.List.{AllByRecursion, flat_map}
 use Rattle.ua_types.specs.Configuration.{Configuration}
 use Rattle.ua_types.specs.declared.moment.Moment.{Moment}
 use Rattle.ua_space.specs.Nodes.{SpaceState}
-use Rattle.ua_values.specs.declared.data_value.DataValue.{DataValue}
+use Rattle.ua_types.specs.declared.data_value.DataValue.{DataValue}
 use Rattle.ua_item_queue.specs.Fates.{Fate, account, any_marked, is_first_marked, is_waiting, waiting, LossesAreMarked}
 use Rattle.ua_item_queue.specs.Fates.Fate.{Waits, WasLost, WasCleared}
 use Rattle.ua_item_queue.specs.ItemQueue.{QueueMove}

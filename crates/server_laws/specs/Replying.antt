@@ -1,7 +1,7 @@
 -- What a server sends of the messages that its subscriptions make.
 use Rattle.std.specs.Prelude.{◌≡◌, ℕ, List, ◌++◌}
 use Rattle.ua_types.specs.declared.moment.Moment.{Moment}
-use Rattle.ua_tcp.specs.declared.frame.Frame.{Frame}
+use Rattle.ua_transport.specs.declared.frame.Frame.{Frame}
 use Rattle.server_messages.specs.declared.request.Request.{Request}
 use Rattle.server_connections.specs.Connecting.{taking_of}
 use Rattle.server_connections.specs.Delivering.{delivery_of}

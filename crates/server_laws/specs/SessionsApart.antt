@@ -2,7 +2,7 @@
 use Rattle.std.specs.Prelude.{◌≡◌, ℕ, List}
 use Rattle.ua_types.specs.Configuration.{Configuration}
 use Rattle.ua_space.specs.Nodes.{SpaceState}
-use Rattle.ua_tcp.specs.declared.frame.Frame.{Frame}
+use Rattle.ua_transport.specs.declared.frame.Frame.{Frame}
 use Rattle.server_messages.specs.declared.request.Request.{Request}
 use Rattle.server_connections.specs.Connecting.{taking_of}
 use Rattle.server_connections.specs.declared.frame_outcome.FrameOutcome.TheVariants as outcome

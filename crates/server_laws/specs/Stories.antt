@@ -1,6 +1,6 @@
 -- Entries of accounts, for stories that the laws refuse.
 use Rattle.std.specs.Prelude.{true, false}
-use Rattle.ua_values.specs.declared.data_value.DataValue.{DataValue}
+use Rattle.ua_types.specs.declared.data_value.DataValue.{DataValue}
 use Rattle.ua_item_queue.specs.Fates.{AccountEntry}
 use Rattle.ua_item_queue.specs.Fates.Fate.{Waits, WasSent, WasLost}
 

@@ -4,7 +4,7 @@ use Rattle.std.proofs.lemmas.List.Sums.{fold-append}
 use Rattle.std.specs.Ordering.{is_eq, int_cmp}
 use Rattle.ua_types.specs.declared.moment.Moment.{Moment}
 use Rattle.ua_types.specs.declared.node_id.NodeId.{NodeId}
-use Rattle.ua_values.specs.declared.data_value.DataValue.{DataValue}
+use Rattle.ua_types.specs.declared.data_value.DataValue.{DataValue}
 use Rattle.server_messages.specs.Kept.{Kept, Past, is_same, put_at, dropped_at, past_with, with_stored, with_all_stored, AreAlike}
 use Rattle.server_messages.specs.declared.stored.Stored.{Stored}
 

@@ -4,7 +4,7 @@ use Rattle.std.specs.Ordering.{is_eq, int_cmp}
 use Rattle.ua_types.specs.NodeIdOrder.{id_cmp}
 use Rattle.ua_types.specs.declared.moment.Moment.{Moment}
 use Rattle.ua_types.specs.declared.node_id.NodeId.{NodeId}
-use Rattle.ua_values.specs.declared.data_value.DataValue.{DataValue}
+use Rattle.ua_types.specs.declared.data_value.DataValue.{DataValue}
 use Rattle.server_messages.specs.declared.kept_values.KeptValue.{KeptValue}
 use Rattle.server_messages.specs.declared.stored.Stored.{Stored}
 

@@ -1,7 +1,6 @@
 //! What a store has kept.
 
-use ua_types::NodeId;
-use ua_values::DataValue;
+use ua_types::{DataValue, NodeId};
 
 /// A value of a variable, as a store has kept it.
 #[derive(Debug, Drop)]

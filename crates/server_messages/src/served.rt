@@ -3,7 +3,7 @@
 use crate::fired::Fired;
 use crate::reply::Reply;
 use crate::stored::Stored;
-use short_lists::ShortList;
+use collections::ShortList;
 use ua_types::Listed;
 
 /// What a request or a tick came to, beside what the services keep.

@@ -1,7 +1,6 @@
 //! What a store has to keep.
 
-use ua_types::{Moment, NodeId};
-use ua_values::DataValue;
+use ua_types::{DataValue, Moment, NodeId};
 
 /// A value that a variable got, and what became of the variable's history by it: what a store has to keep, so that both
 /// outlast the server.

@@ -2,7 +2,7 @@
 
 use crate::events::base_server;
 use crate::holding::holds;
-use scenario_events::assemble;
+use scenario_run::assemble;
 use server_core::{Out, Ran, Server, Step};
 use std::alloc::Global;
 use std::process::Abort;

@@ -9,7 +9,7 @@ use Rattle.socket_peers.specs.Peer.{PeerState, ready, awake_if, departs, departe
 use Rattle.socket_peers.specs.Peers.{PeersState, at, with_woken_if, listed_if, woken_if, reported, reported_by, is_true_of, changed_by, touching, touching_by, Departs, ReadsBy, ReadsAt, LosesBy, LosesAt, FlushesBy, FlushesAt, FlushesEach, LooksBy, LooksAt}
 use Rattle.std.specs.Ordering.{nat_cmp}
 use Rattle.std.specs.FinMap.{FinMap, insert}
-use Rattle.number_slots.proofs.NumberMaps.{insert_same}
+use Rattle.collections.proofs.NumberMaps.{insert_same}
 
 -- two facts of what went well
 pub both_ok : {X E : Type 0} (A B C : Type 0) (r : Result X E) → OnOk r A → OnOk r B → (A → B → C) → OnOk r C

@@ -5,9 +5,9 @@ ghost use Rattle.server_core.specs.World.{world_of};
 ghost use Rattle.socket_server.specs.Keeping.{keeping, keeping_all, Steps, SettlesOr};
 
 use crate::serve_fault::ServeFault;
+use collections::ShortList;
 use server_core::{Event, Fired, Out, Server};
 use server_messages::{Keeper, Stored};
-use short_lists::ShortList;
 use std::alloc::Global;
 use ua_types::Listed;
 

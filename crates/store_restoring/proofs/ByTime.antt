@@ -12,7 +12,7 @@ use Rattle.std.specs.Ordering.{is_eq, int_cmp, match_ordering, ordering_reverse}
 use Rattle.std.specs.declared.cmp.Ordering.{Ordering}
 use Rattle.std.specs.declared.cmp.Ordering.TheVariants.{Less, Equal, Greater}
 use Rattle.ua_types.specs.declared.moment.Moment.{Moment}
-use Rattle.ua_values.specs.declared.data_value.DataValue.{DataValue}
+use Rattle.ua_types.specs.declared.data_value.DataValue.{DataValue}
 use Rattle.ua_space.specs.Histories.{are_later, rises}
 use Rattle.server_messages.specs.Kept.{Past, is_at_time, put_at}
 use Rattle.store_restoring.specs.Opened.{AreTimed, Timed, has_added}

@@ -9,7 +9,7 @@ use Rattle.ua_types.specs.NodeIdOrder.{id_cmp}
 use Rattle.ua_types.specs.declared.node_id.NodeId.{NodeId}
 use Rattle.ua_types.specs.contracts.node_id.NodeIdOrd.TheImpl.Laws.{total-law, matches_eq-law}
 use Rattle.ua_types.proofs.SameIds.{same_id_true}
-use Rattle.ua_values.specs.declared.data_value.DataValue.{DataValue}
+use Rattle.ua_types.specs.declared.data_value.DataValue.{DataValue}
 use Rattle.ua_space.specs.Histories.{history_in, with_history_in}
 use Rattle.ua_space.specs.NodePlaces.{place_of}
 use Rattle.ua_space.specs.Nodes.{Nodes, node_at}

@@ -7,7 +7,7 @@ use Rattle.std.specs.Option.{option_or}
 use Rattle.ua_types.specs.NodeIdOrder.{id_cmp}
 use Rattle.ua_types.specs.declared.moment.Moment.{Moment}
 use Rattle.ua_types.specs.declared.node_id.NodeId.{NodeId}
-use Rattle.ua_values.specs.declared.data_value.DataValue.{DataValue}
+use Rattle.ua_types.specs.declared.data_value.DataValue.{DataValue}
 use Rattle.ua_space.specs.Histories.{history_in, rises, with_history_in}
 use Rattle.ua_space.specs.NodePlaces.{place_of}
 use Rattle.ua_space.specs.Nodes.{Nodes, node_at}

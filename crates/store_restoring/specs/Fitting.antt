@@ -1,7 +1,7 @@
 -- Which of the values that a store has kept a space takes, and why it doesn't take the others.
 use Rattle.std.specs.Prelude.{Bool, not, ◌&&◌, List, Option, Some, None, option_map, is_none, if◌then◌else◌}
 use Rattle.std.specs.List.{filter, filter_map}
-use Rattle.ua_values.specs.declared.data_value.DataValue.{DataValue}
+use Rattle.ua_types.specs.declared.data_value.DataValue.{DataValue}
 use Rattle.ua_space.specs.Nodes.{Nodes, node_at}
 use Rattle.ua_space.specs.Values.{variable_in}
 use Rattle.ua_space.specs.Variables.{VariableAttributes, takes_if_any}

@@ -6,11 +6,11 @@ ghost use Rattle.ua_space.specs.Values.{variable_in};
 ghost use Rattle.store_restoring.specs.Fitting.{fitting, left_out, misfit, variable_misfit};
 
 use crate::left_out::{LeftOut, Misfit};
-use number_slots::Near;
+use collections::Near;
 use server_messages::KeptValue;
 use std::alloc::{AllocError, Global};
 use ua_space::{NodeDetails, Space};
-use ua_values::DataValue;
+use ua_types::DataValue;
 use ua_views::NodeIdView;
 
 // Why a node doesn't take a value, as its own or into its history.

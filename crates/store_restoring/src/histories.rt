@@ -7,7 +7,7 @@ ghost use Rattle.store_restoring.specs.Restored.{TakesPast, TakesPasts};
 
 use crate::fitting::place_for;
 use crate::opened::Opened;
-use number_slots::Near;
+use collections::Near;
 use server_messages::KeptValue;
 use std::alloc::{AllocError, Global};
 use ua_space::Space;

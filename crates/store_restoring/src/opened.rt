@@ -11,8 +11,7 @@ use std::alloc::{AllocError, Global};
 use std::collections::BTreeMap;
 use std::marker::Model;
 use ua_space::Space;
-use ua_types::{Listed, Moment};
-use ua_values::DataValue;
+use ua_types::{DataValue, Listed, Moment};
 
 /// The history of a node while values are put into it: it is moved out of the space, and later put back.
 ///

@@ -8,7 +8,7 @@ ghost use Rattle.store_restoring.specs.Restored.{AreRestored, TakesValue, TakesV
 use crate::fitting::{place_for, sort_out};
 use crate::histories::restore_histories;
 use crate::left_out::LeftOut;
-use number_slots::Near;
+use collections::Near;
 use server_messages::{KeptValue, KeptValues};
 use std::alloc::{AllocError, Global};
 use ua_space::Space;

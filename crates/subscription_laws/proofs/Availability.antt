@@ -6,9 +6,9 @@ use Rattle.std.specs.BTreeMap.{is_at}
 use Rattle.std.specs.Map.{set_value}
 use Rattle.std.specs.Ordering.{nat_cmp}
 use Rattle.std.specs.Prelude.{◌==◌, ◌&&◌, fold, nat_lt}
-use Rattle.number_slots.proofs.NumberMaps.{same_number}
+use Rattle.collections.proofs.NumberMaps.{same_number}
 use Rattle.ua_types.specs.Configuration.{Configuration}
-use Rattle.ua_values.specs.declared.data_value.DataValue.{DataValue}
+use Rattle.ua_types.specs.declared.data_value.DataValue.{DataValue}
 use Rattle.ua_read_write.specs.declared.writing.Change.{Change}
 use Rattle.ua_item_queue.specs.ItemQueue.{changed, queue_after, marked_front}
 use Rattle.ua_item_queue.specs.ItemQueue.QueueChange.{Queued, FrontDropped, NewestReplaced, OnlyReplaced}

@@ -11,7 +11,7 @@ use Rattle.std.specs.Ordering.{nat_cmp, match_ordering, is_eq}
 use Rattle.std.specs.Set.{remove_key}
 use Rattle.std.specs.declared.cmp.Ordering.{Ordering}
 use Rattle.std.specs.declared.cmp.Ordering.TheVariants.{Less, Equal, Greater}
-use Rattle.number_slots.proofs.NumberMaps.{same_number, numbers_same, told_apart, lookup_put}
+use Rattle.collections.proofs.NumberMaps.{same_number, numbers_same, told_apart, lookup_put}
 use Rattle.ua_subscriptions.proofs.Choosing.{either}
 use Rattle.ua_subscriptions.proofs.MapEntries.{set_elsewhere, removed_elsewhere, inserted_elsewhere, entries_removed, entries_inserted}
 use Rattle.subscription_laws.specs.Calm.{AreAbove, AreRising, AreNumbersAbove, AreNumbersRising, is_listed}

@@ -1,7 +1,7 @@
 -- Each value that was sent stands in one message that a row made.
 use Rattle.std.proofs.Common.{◌≡◌, ℕ, Bool, true, false, cond, List, [], ◌∷◌, ◌++◌, append_assoc, append-nil, map, drop, refl, sym, ap, ◌∙◌, subst, Some}
 use Rattle.ua_types.specs.Configuration.{Configuration}
-use Rattle.ua_values.specs.declared.data_value.DataValue.{DataValue}
+use Rattle.ua_types.specs.declared.data_value.DataValue.{DataValue}
 use Rattle.ua_subscription_messages.specs.DataChangeMessages.{data_change_message}
 use Rattle.ua_subscription_messages.specs.declared.publishing.MonitoredItemNotification.{MonitoredItemNotification}
 use Rattle.ua_state_table.specs.declared.row.RowId.{RowId}

@@ -2,7 +2,7 @@
 use Rattle.std.proofs.Common.{◌≡◌, ℕ, List, [], ◌∷◌, ◌++◌, append_assoc, sym, ap, ◌∙◌, subst}
 use Rattle.std.proofs.lemmas.List.Sums.{fold-append}
 use Rattle.ua_types.specs.Configuration.{Configuration}
-use Rattle.ua_values.specs.declared.data_value.DataValue.{DataValue}
+use Rattle.ua_types.specs.declared.data_value.DataValue.{DataValue}
 use Rattle.ua_item_queue.specs.Fates.{AccountEntry, account, account_after, waiting, GoesOn, IsInOrder, LossesAreMarked, NewLossesAreMarked}
 use Rattle.ua_item_queue.specs.ItemQueue.{QueueMove}
 use Rattle.ua_item_queue.specs.ItemQueue.QueueMove.{Sample}

@@ -1,7 +1,7 @@
 -- What becomes of the values that items queue, whatever is called.
 use Rattle.std.specs.Prelude.{◌≡◌, ◌<◌, ℕ, Bool, List, [], ◌∷◌, ◌++◌}
 use Rattle.ua_types.specs.Configuration.{Configuration}
-use Rattle.ua_values.specs.declared.data_value.DataValue.{DataValue}
+use Rattle.ua_types.specs.declared.data_value.DataValue.{DataValue}
 use Rattle.ua_item_queue.specs.Causes.{may_give, GetsOnly}
 use Rattle.ua_item_queue.specs.Fates.{AccountEntry, account, GoesOn, NewLossesAreMarked}
 use Rattle.ua_item_queue.specs.ItemQueue.{QueueMove}

@@ -4,7 +4,7 @@ use Rattle.ua_item_queue.specs.Fates.{account, account_after}
 use Rattle.ua_item_queue.specs.ItemQueue.{QueueMove}
 use Rattle.ua_item_queue.specs.ItemQueue.QueueMove.{Sample}
 use Rattle.ua_item_queue.specs.Marks.{AllAboveOne, MarksTheNextLeft}
-use Rattle.ua_values.specs.declared.data_value.DataValue.{DataValue}
+use Rattle.ua_types.specs.declared.data_value.DataValue.{DataValue}
 
 -- Where a queue of more than one loses the value at a place, as another is sampled, and from then on it holds more than one and
 -- nothing of it becomes cleared, the first value behind that place that was neither lost nor cleared carries the mark

@@ -1,7 +1,7 @@
 -- What may want memory.
 use Rattle.std.proofs.Common.{ℕ, List, Ok, ◌≡◌, ◌%◌, ◌/◌, inl, inr, refl, sym, subst}
-use Rattle.ua_values.specs.declared.content.Content.{Content}
-use Rattle.ua_values.specs.declared.variant.Variant.TheVariants as variants
+use Rattle.ua_types.specs.declared.content.Content.{Content}
+use Rattle.ua_types.specs.declared.variant.Variant.TheVariants as variants
 use Rattle.ua_binary.specs.Reading.{Reading}
 use Rattle.ua_binary.specs.Texts.{IsBacked}
 use Rattle.ua_binary.specs.Numbers.{byte_reading}

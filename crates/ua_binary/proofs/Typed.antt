@@ -1,8 +1,8 @@
 -- A value of one type, whose content is read again.
 use Rattle.std.proofs.Common.{◌≡◌, ℕ, ◌<◌, List, ◌++◌, Result, Ok, Err, refl}
 use Rattle.std.specs.Prelude.{OnOk}
-use Rattle.ua_values.specs.declared.content.Content.{Content}
-use Rattle.ua_values.specs.declared.variant.Variant.{Variant}
+use Rattle.ua_types.specs.declared.content.Content.{Content}
+use Rattle.ua_types.specs.declared.variant.Variant.{Variant}
 use Rattle.ua_binary.specs.Reading.{IsReadAgain, Reading}
 use Rattle.ua_binary.specs.Variants.{content_encoding, content_reading, flags_of, typed_encoding, typed_reading, variant_encoding, variant_of, variant_reading}
 use Rattle.ua_binary.proofs.TypeBytes.{flags_are, number_is}

@@ -1,8 +1,8 @@
 -- Where memory may be wanting: before what is there, and never before what is only claimed.
 use Rattle.std.specs.Prelude.{◌≡◌, ◌⊎◌, ⊤, ℕ, List, Ok}
-use Rattle.ua_values.specs.declared.content.Content.{Content}
-use Rattle.ua_values.specs.declared.variant.Variant.{Variant}
-use Rattle.ua_values.specs.declared.variant.Variant.TheVariants as variants
+use Rattle.ua_types.specs.declared.content.Content.{Content}
+use Rattle.ua_types.specs.declared.variant.Variant.{Variant}
+use Rattle.ua_types.specs.declared.variant.Variant.TheVariants as variants
 use Rattle.ua_binary.specs.Reading.{Reading}
 use Rattle.ua_binary.specs.Texts.{IsBacked}
 use Rattle.ua_binary.specs.Variants.{content_reading, typed_reading, variant_reading}

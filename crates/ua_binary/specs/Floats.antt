@@ -1,7 +1,7 @@
 -- Floating-point numbers (IEC 62541-6, 5.2.2.3): their bytes, as they stand.
 use Rattle.std.specs.Prelude.{ℕ, List}
-use Rattle.ua_values.specs.declared.float.Float.{Float}
-use Rattle.ua_values.specs.declared.float.Double.{Double}
+use Rattle.ua_types.specs.declared.float.Float.{Float}
+use Rattle.ua_types.specs.declared.float.Double.{Double}
 use Rattle.ua_binary.specs.Reading.{Reading, ◌>>=◌, done}
 use Rattle.ua_binary.specs.Numbers.{octets_reading, octets_encoding}
 

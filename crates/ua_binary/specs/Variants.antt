@@ -3,11 +3,11 @@
 -- that dimensions follow the list.
 use Rattle.std.specs.Prelude.{◌≡◌, ◌⊎◌, ℕ, ◌≤◌, ◌*◌, ◌+◌, ◌/◌, ◌%◌, List, [], ◌∷◌, ◌++◌, length, Option, Some, None, ◌==◌, if◌then◌else◌}
 use Rattle.std.specs.Int.{w16, w32, w64}
-use Rattle.ua_values.specs.declared.content.Content.{Content}
-use Rattle.ua_values.specs.declared.content.Content.TheVariants.{Scalar, Array, Matrix}
-use Rattle.ua_values.specs.declared.variant.Variant.{Variant}
-use Rattle.ua_values.specs.declared.variant.Variant.TheVariants as variants
-use Rattle.ua_values.specs.Matrices.{is_shape, or_none}
+use Rattle.ua_types.specs.declared.content.Content.{Content}
+use Rattle.ua_types.specs.declared.content.Content.TheVariants.{Scalar, Array, Matrix}
+use Rattle.ua_types.specs.declared.variant.Variant.{Variant}
+use Rattle.ua_types.specs.declared.variant.Variant.TheVariants as variants
+use Rattle.ua_types.specs.Matrices.{is_shape, or_none}
 use Rattle.ua_binary.specs.declared.fault.TakeFault.TheVariants.{Form, Kind}
 use Rattle.ua_binary.specs.Reading.{Reading, ◌>>=◌, done, refuse}
 use Rattle.ua_binary.specs.Numbers.{boolean_reading, boolean_encoding, byte_reading, byte_encoding, sbyte_reading, sbyte_encoding, number_reading, number_encoding, signed_reading, signed_encoding}

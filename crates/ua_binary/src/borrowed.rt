@@ -3,7 +3,7 @@
 ghost use Rattle.std.specs.Prelude.{◌≡◌, ◌<◌, ◌++◌, ℕ, List, Some, Ok, length, take, drop, OnOk, OnErr};
 ghost use Rattle.ua_binary.specs.Reading.{Extends, IsReadAgain};
 ghost use Rattle.ua_binary.specs.Variants.{content_reading, variant_reading, flags_of, content_encoding, typed_encoding, variant_encoding};
-ghost use Rattle.ua_values.specs.Parts.{part_in, part_of};
+ghost use Rattle.ua_types.specs.Parts.{part_in, part_of};
 
 use crate::arrays::write_list;
 use crate::variants::encode_typed;
@@ -11,7 +11,7 @@ use crate::wire::Wire;
 use crate::written::Written;
 use std::alloc::AllocError;
 use std::marker::Model;
-use ua_values::{Content, Variant};
+use ua_types::{Content, Variant};
 
 /// A value, or a part of a list, that is written where it stands, without a copy. Contracts see it as the [`Variant`] that is
 /// written.
@@ -24,7 +24,7 @@ pub struct BorrowedVariant<'a> {
 
 impl<'a> Model for BorrowedVariant<'a> {
     ghost use Rattle.ua_binary.specs.Borrowed.{lent};
-    ghost use Rattle.ua_values.specs.declared.variant.Variant.{Variant};
+    ghost use Rattle.ua_types.specs.declared.variant.Variant.{Variant};
 
     ghost Value = { Variant };
 

@@ -16,8 +16,7 @@ use crate::wire::Wire;
 use crate::written::Written;
 use std::alloc::{AllocError, Global};
 use std::marker::Model;
-use ua_types::{Moment, Status};
-use ua_values::{DataValue, Variant};
+use ua_types::{DataValue, Moment, Status, Variant};
 
 /// A value with its status and times, where the value is borrowed: what is stored is written without a
 /// copy, and with the times that an answer is to have. Contracts see it as the [`DataValue`].
@@ -30,7 +29,7 @@ pub struct BorrowedDataValue<'a> {
 }
 
 impl<'a> Model for BorrowedDataValue<'a> {
-    ghost use Rattle.ua_values.specs.declared.data_value.DataValue.{DataValue};
+    ghost use Rattle.ua_types.specs.declared.data_value.DataValue.{DataValue};
 
     ghost Value = { DataValue };
 

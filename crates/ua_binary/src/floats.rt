@@ -7,7 +7,7 @@ use crate::cursor::Cursor;
 use crate::fault::TakeFault;
 use crate::wire::Wire;
 use std::alloc::{AllocError, Global};
-use ua_values::{Double, Float};
+use ua_types::{Double, Float};
 
 #[tactic(auto, unfolding(crate::specs::Floats::float_reading, crate::specs::Floats::float_encoding))]
 impl Wire for Float {

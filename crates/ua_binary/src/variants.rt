@@ -1,8 +1,8 @@
 //! Values of any type.
 
 ghost use Rattle.std.specs.Prelude.{◌≡◌, ◌≢◌, ◌<◌, ◌≤◌, ◌⊎◌, ◌++◌, ℕ, List, Ok, Err, OnOk, OnErr};
-ghost use Rattle.ua_values.specs.Matrices.{or_none};
-ghost use Rattle.ua_values.specs.declared.content.Content.TheVariants as contents;
+ghost use Rattle.ua_types.specs.Matrices.{or_none};
+ghost use Rattle.ua_types.specs.declared.content.Content.TheVariants as contents;
 ghost use Rattle.ua_binary.specs.declared.fault.TakeFault.TheVariants.{Memory};
 ghost use Rattle.ua_binary.specs.Reading.{Reads, ReadsInto, Extends};
 ghost use Rattle.ua_binary.specs.NodeIds.{SaysNumberOrGuid};
@@ -15,8 +15,7 @@ use crate::cursor::Cursor;
 use crate::fault::TakeFault;
 use crate::wire::Wire;
 use std::alloc::{AllocError, Global};
-use ua_types::{Shared, SharedList};
-use ua_values::{Content, Matrix, Variant, has_shape};
+use ua_types::{Content, Matrix, Shared, SharedList, Variant, has_shape};
 
 // A list in dimensions that were read after it.
 fn with_dimensions<T: Drop>(

@@ -14,7 +14,7 @@ use Rattle.ua_types.specs.NodeIdOrder.{id_cmp}
 use Rattle.ua_types.specs.contracts.node_id.NodeIdOrd.TheImpl.Laws.{total-law}
 use Rattle.ua_types.specs.declared.moment.Moment.{Moment}
 use Rattle.ua_types.specs.declared.node_id.NodeId.{NodeId}
-use Rattle.ua_values.specs.declared.data_value.DataValue.{DataValue}
+use Rattle.ua_types.specs.declared.data_value.DataValue.{DataValue}
 use Rattle.ua_space.proofs.Soundness.{tied}
 use Rattle.ua_space.specs.Histories.{rises, are_later}
 use Rattle.ua_history.specs.Histories.{Values, HistoryState, history_of, put_in, latest, kept_in, with_one, kept_at, kept, with_all}

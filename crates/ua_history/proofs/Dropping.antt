@@ -13,7 +13,7 @@ use Rattle.ua_types.specs.Configuration.{Configuration}
 use Rattle.ua_types.specs.NodeIdOrder.{id_cmp}
 use Rattle.ua_types.specs.declared.moment.Moment.{Moment}
 use Rattle.ua_types.specs.declared.node_id.NodeId.{NodeId}
-use Rattle.ua_values.specs.declared.data_value.DataValue.{DataValue}
+use Rattle.ua_types.specs.declared.data_value.DataValue.{DataValue}
 use Rattle.ua_space.proofs.Soundness.{tied as same_id}
 use Rattle.ua_space.specs.Nodes.{Nodes}
 use Rattle.ua_history.specs.HistoryLaws.{IsByTime, or_before, unless_dropped, KeepsOneMore}

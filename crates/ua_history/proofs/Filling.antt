@@ -5,7 +5,7 @@ use Rattle.std.proofs.lemmas.Bool.{lt-ltb}
 use Rattle.std.proofs.lemmas.List.{take-append-drop, take-append-le, take_min, take_all, reverse-append, length-reverse, flat_map_more}
 use Rattle.std.specs.Borrow.{Bor}
 use Rattle.std.specs.Option.{option_or}
-use Rattle.ua_values.specs.declared.data_value.DataValue.{DataValue}
+use Rattle.ua_types.specs.declared.data_value.DataValue.{DataValue}
 use Rattle.ua_history.specs.Histories.{Values}
 use Rattle.ua_history.specs.Intervals.{in_order}
 use Rattle.ua_history.specs.Pages.{is_more_than, last_time}

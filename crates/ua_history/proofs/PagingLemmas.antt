@@ -12,7 +12,7 @@ use Rattle.std.specs.declared.ops.Bound.{Bound}
 use Rattle.std.specs.declared.ops.Bound.TheVariants.{Included, Excluded, Unbounded}
 use Rattle.std.specs.declared.cmp.Ordering.TheVariants.{Less}
 use Rattle.ua_types.specs.declared.moment.Moment.{Moment}
-use Rattle.ua_values.specs.declared.data_value.DataValue.{DataValue}
+use Rattle.ua_types.specs.declared.data_value.DataValue.{DataValue}
 use Rattle.ua_history.specs.HistoryLaws.{IsByTime, is_past, GoesPastTheLast, left_past, NextIsWhatFollows, joined_past, joined, PagesJoinToAll}
 use Rattle.ua_history.specs.Histories.{Values}
 use Rattle.ua_history.specs.Intervals.{past, raw}

@@ -8,7 +8,7 @@ use Rattle.std.specs.Ordering.{int_cmp, is_eq}
 use Rattle.ua_types.specs.NodeIdOrder.{id_cmp}
 use Rattle.ua_types.specs.declared.moment.Moment.{Moment}
 use Rattle.ua_types.specs.declared.node_id.NodeId.{NodeId}
-use Rattle.ua_values.specs.declared.data_value.DataValue.{DataValue}
+use Rattle.ua_types.specs.declared.data_value.DataValue.{DataValue}
 use Rattle.ua_space.specs.Histories.{rises}
 use Rattle.ua_history.specs.Histories.{Values, HistoryState, history_of, value_at, kept_in, kept, dropped, with_all}
 use Rattle.ua_history.specs.Intervals.{past, raw}

@@ -10,13 +10,12 @@ ghost use Rattle.ua_space.specs.Histories.{history_in, without_history_in, witho
 
 use crate::intervals::Interval;
 use crate::pages::{Cut, page};
+use collections::Segments;
 use std::alloc::{AllocError, Global};
 use std::collections::BTreeMap;
 use std::marker::Model;
-use time_segments::Segments;
 use ua_space::Space;
-use ua_types::{Config, Copyable, Listed, Moment, NodeId};
-use ua_values::DataValue;
+use ua_types::{Config, Copyable, DataValue, Listed, Moment, NodeId};
 
 /// The values of one node, by the times of their source. Contracts see a list, by rising time.
 #[derive(Drop)]

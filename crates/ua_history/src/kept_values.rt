@@ -5,7 +5,7 @@ ghost use Rattle.ua_history.specs.Runs.{told, runs_seen};
 
 use std::alloc::Global;
 use std::marker::Model;
-use ua_values::DataValue;
+use ua_types::DataValue;
 
 /// Values of a history under their times, one behind the other in memory, by rising time.
 pub type Run<'a> = &'a [(i64, DataValue)];

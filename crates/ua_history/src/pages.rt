@@ -9,12 +9,11 @@ ghost use Rattle.ua_history.specs.Pages.{IsCut, last_time as last_time_spec, fil
 
 use crate::intervals::Interval;
 use crate::kept_values::{KeptValues, Run};
+use collections::Segments;
 use std::alloc::{AllocError, Global};
 use std::marker::Model;
 use std::ops::Bound;
-use time_segments::Segments;
-use ua_types::Moment;
-use ua_values::DataValue;
+use ua_types::{DataValue, Moment};
 
 /// The first values of a node in an interval, in its order.
 #[derive(Debug, Drop)]

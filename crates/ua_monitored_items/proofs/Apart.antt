@@ -7,7 +7,7 @@ use Rattle.std.specs.Prelude.{⊤, ◌==◌, ◌&&◌, fold, map, nat_lt, not}
 use Rattle.std.specs.BTreeMap.{insert_entry, is_at}
 use Rattle.std.specs.Map.{set_value, remove_entry}
 use Rattle.std.specs.Ordering.{nat_cmp}
-use Rattle.number_slots.proofs.NumberMaps.{same_number}
+use Rattle.collections.proofs.NumberMaps.{same_number}
 use Rattle.ua_types.specs.declared.moment.Moment.{Moment}
 use Rattle.ua_types.specs.declared.status.Status.{Status}
 use Rattle.ua_space.specs.Nodes.{Nodes}

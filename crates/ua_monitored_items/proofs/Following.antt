@@ -7,8 +7,8 @@ use Rattle.std.specs.BTreeMap.{insert_entry, is_at}
 use Rattle.std.specs.Map.{set_value, remove_entry}
 use Rattle.std.specs.Ordering.{nat_cmp}
 use Rattle.std.specs.declared.cmp.Ordering.TheVariants.{Greater}
-use Rattle.number_slots.proofs.NumberMaps.{same_number, told_apart}
-use Rattle.ua_values.specs.declared.data_value.DataValue.{DataValue}
+use Rattle.collections.proofs.NumberMaps.{same_number, told_apart}
+use Rattle.ua_types.specs.declared.data_value.DataValue.{DataValue}
 use Rattle.ua_item_queue.specs.ItemQueue.{QueueMove, queue_after}
 use Rattle.ua_item_queue.specs.ItemQueue.QueueMove.{Clear}
 use Rattle.ua_item_queue.specs.declared.entry.Entry.{Entry}

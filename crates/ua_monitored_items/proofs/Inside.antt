@@ -8,9 +8,9 @@ use Rattle.std.specs.BTreeMap.{insert_entry, is_at}
 use Rattle.std.specs.BTreeSet.{insert_key}
 use Rattle.std.specs.Map.{set_value, remove_entry}
 use Rattle.std.specs.Ordering.{nat_cmp}
-use Rattle.number_slots.proofs.NumberMaps.{same_number}
+use Rattle.collections.proofs.NumberMaps.{same_number}
 use Rattle.ua_types.specs.declared.moment.Moment.{Moment}
-use Rattle.ua_values.specs.declared.data_value.DataValue.{DataValue}
+use Rattle.ua_types.specs.declared.data_value.DataValue.{DataValue}
 use Rattle.ua_space.specs.Nodes.{Nodes}
 use Rattle.ua_read_write.specs.declared.timestamps.Timestamps.{Timestamps}
 use Rattle.ua_read_write.specs.declared.writing.Change.{Change}

@@ -4,7 +4,7 @@ use Rattle.std.proofs.lemmas.Bool.{leb-false, leb-true}
 use Rattle.std.proofs.lemmas.List.Sums.{fold-append}
 use Rattle.std.proofs.lemmas.List.Concat.{flat_map-cons}
 use Rattle.std.specs.Prelude.{◌&&◌, ◌||◌, flat_map, fold, nat_lt}
-use Rattle.ua_values.specs.declared.data_value.DataValue.{DataValue}
+use Rattle.ua_types.specs.declared.data_value.DataValue.{DataValue}
 use Rattle.ua_subscription_messages.specs.DataChangeMessages.{MessageDraft, with_note, with_notes}
 use Rattle.ua_monitored_items.specs.Item.{seen, with_sent, gave, notes_of, waiting_in}
 use Rattle.ua_monitored_items.specs.Sampling.{visits_by}

@@ -1,7 +1,7 @@
 -- What items give to messages: their oldest values, with their marks.
 use Rattle.std.specs.Prelude.{◌≡◌, ℕ, ◌==◌, List, [], ◌∷◌, ◌++◌, map, take, Option, Some, None, if◌then◌else◌}
 use Rattle.ua_types.specs.Configuration.{Configuration}
-use Rattle.ua_values.specs.declared.data_value.DataValue.{DataValue}
+use Rattle.ua_types.specs.declared.data_value.DataValue.{DataValue}
 use Rattle.ua_read_write.specs.declared.timestamps.Timestamps.{Timestamps}
 use Rattle.ua_subscription_messages.specs.declared.publishing.MonitoredItemNotification.{MonitoredItemNotification}
 use Rattle.ua_item_queue.specs.Sendings.{sent_of}

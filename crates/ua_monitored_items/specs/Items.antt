@@ -12,7 +12,7 @@ use Rattle.ua_types.specs.declared.moment.Moment.{Moment}
 use Rattle.ua_types.specs.declared.status.Status.{Status}
 use Rattle.ua_types.specs.declared.status.TheConstants.Status as status
 use Rattle.ua_types.specs.Configuration.{Configuration}
-use Rattle.ua_values.specs.declared.data_value.DataValue.{DataValue}
+use Rattle.ua_types.specs.declared.data_value.DataValue.{DataValue}
 use Rattle.ua_space.specs.Nodes.{Nodes}
 use Rattle.ua_read_write.specs.Attributes.{Attributed}
 use Rattle.ua_read_write.specs.Reading.{readable}

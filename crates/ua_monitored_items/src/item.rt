@@ -22,8 +22,7 @@ use ua_subscription_messages::{
     BorrowedNotification, DataChangeMessage, MonitoredItemNotification, MonitoringParametersView,
     SubscriptionId,
 };
-use ua_types::{Copyable, Moment, NodeId, Status};
-use ua_values::DataValue;
+use ua_types::{Copyable, DataValue, Moment, NodeId, Status};
 
 /// The Overflow bit, and that the information bits of a status are those of a data value
 /// (IEC 62541-4, section 7, "StatusCode").

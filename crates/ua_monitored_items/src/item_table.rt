@@ -33,8 +33,7 @@ use ua_space::Space;
 use ua_subscription_messages::{
     DataChangeMessage, MonitoredItemNotification, MonitoringParametersView, SubscriptionId,
 };
-use ua_types::{Copyable, NodeId};
-use ua_values::DataValue;
+use ua_types::{Copyable, DataValue, NodeId};
 
 /// The items of a server under their numbers, and the number of the last one that was made.
 ///

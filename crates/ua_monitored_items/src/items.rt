@@ -32,8 +32,9 @@ use ua_subscription_messages::{
     MonitoredItemModifyRequestView, MonitoredItemModifyResult, MonitoredItemNotification,
     MonitoringMode, MonitoringParametersView, SubscriptionId,
 };
-use ua_types::{Config, Duration, ExtensionObject, ExtensionObjectBody, Moment, NodeId, Status};
-use ua_values::DataValue;
+use ua_types::{
+    Config, DataValue, Duration, ExtensionObject, ExtensionObjectBody, Moment, NodeId, Status,
+};
 use ua_views::ArrayView;
 
 /// The monitored items of a server, of all subscriptions. Each has a number, counted from 1 over the

@@ -6,7 +6,7 @@ ghost use Rattle.ua_monitored_items.specs.Item.{is_enabled, is_reporting, is_sam
 
 use ua_messages::{structure_view, type_ids};
 use ua_subscription_messages::{DataChangeFilter, DataChangeTrigger, MonitoringMode};
-use ua_values::DataValue;
+use ua_types::DataValue;
 use ua_views::{ExtensionObjectBodyView, ExtensionObjectView};
 
 /// What a monitored item does (MonitoringMode, IEC 62541-4, section 7).

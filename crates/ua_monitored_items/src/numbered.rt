@@ -22,13 +22,13 @@ use crate::preparing::Modification;
 use crate::releases::{Release, Releases};
 use crate::taking::give_all;
 use crate::tally::{Recount, Tally, count, hold};
-use number_slots::Slots;
+use collections::Slots;
 use std::alloc::{AllocError, Global};
 use std::collections::{BTreeMap, BTreeSet};
 use std::marker::Model;
 use ua_read_write::Timestamps;
 use ua_subscription_messages::{DataChangeMessage, MonitoringParametersView, SubscriptionId};
-use ua_values::DataValue;
+use ua_types::DataValue;
 
 /// Items under their numbers. Contracts see these alone.
 ///

@@ -2,7 +2,7 @@
 
 use crate::kinds::Trigger;
 use ua_item_queue::QueueSize;
-use ua_values::DataValue;
+use ua_types::DataValue;
 
 /// An entry of SetMonitoringMode, with what it wants.
 #[derive(Drop)]

@@ -11,8 +11,7 @@ use crate::releases::Releases;
 use std::alloc::{AllocError, Global};
 use std::collections::BTreeSet;
 use ua_read_write::Change;
-use ua_types::NodeId;
-use ua_values::DataValue;
+use ua_types::{DataValue, NodeId};
 
 // The items with these numbers see a value, one after the other. Answers what that releases.
 fn visit_all(

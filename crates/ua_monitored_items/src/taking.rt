@@ -9,7 +9,7 @@ ghost use Rattle.ua_subscription_messages.specs.DataChangeMessages.{with_notes};
 
 use crate::item::Item;
 use crate::tally::{Recount, Tally};
-use number_slots::Slots;
+use collections::Slots;
 use std::alloc::AllocError;
 use std::collections::{BTreeMap, BTreeSet};
 use ua_subscription_messages::DataChangeMessage;

@@ -6,13 +6,13 @@ use Rattle.std.specs.List.{position_or_len, before_first, after_first}
 use Rattle.ua_types.specs.declared.moment.Moment.{Moment}
 use Rattle.ua_types.specs.declared.status.Status.{Status}
 use Rattle.ua_types.specs.declared.status.TheConstants.Status as status
-use Rattle.ua_values.specs.Parts.{list_len_in, part_in, list_len, flat_len, part_of, flattened, with_part, HasRoom}
-use Rattle.ua_values.specs.Variants.{type_number}
-use Rattle.ua_values.specs.declared.content.Content.{Content}
-use Rattle.ua_values.specs.declared.content.Content.TheVariants.{Scalar, Array, Matrix}
-use Rattle.ua_values.specs.declared.variant.Variant.{Variant}
-use Rattle.ua_values.specs.declared.variant.Variant.TheVariants as variants
-use Rattle.ua_values.proofs.Parting.{len_flattened, type_flattened, part_again}
+use Rattle.ua_types.specs.Parts.{list_len_in, part_in, list_len, flat_len, part_of, flattened, with_part, HasRoom}
+use Rattle.ua_types.specs.Variants.{type_number}
+use Rattle.ua_types.specs.declared.content.Content.{Content}
+use Rattle.ua_types.specs.declared.content.Content.TheVariants.{Scalar, Array, Matrix}
+use Rattle.ua_types.specs.declared.variant.Variant.{Variant}
+use Rattle.ua_types.specs.declared.variant.Variant.TheVariants as variants
+use Rattle.ua_types.proofs.Parting.{len_flattened, type_flattened, part_again}
 use Rattle.ua_service_messages.specs.declared.writing.WriteValue.{WriteValue}
 use Rattle.ua_space.specs.Nodes.{node_at}
 use Rattle.ua_space.specs.Values.{variable_in, variable_of, holding}

@@ -8,10 +8,10 @@ use Rattle.ua_types.specs.declared.moment.Moment.{Moment}
 use Rattle.ua_types.specs.declared.node_id.NodeId.{NodeId}
 use Rattle.ua_types.specs.declared.qualified_name.QualifiedName.{QualifiedName}
 use Rattle.ua_types.specs.declared.status.TheConstants.Status as status
-use Rattle.ua_values.specs.declared.content.Content.TheVariants.{Scalar}
-use Rattle.ua_values.specs.declared.data_value.DataValue.{DataValue}
-use Rattle.ua_values.specs.declared.variant.Variant.{Variant}
-use Rattle.ua_values.specs.declared.variant.Variant.TheVariants as variants
+use Rattle.ua_types.specs.declared.content.Content.TheVariants.{Scalar}
+use Rattle.ua_types.specs.declared.data_value.DataValue.{DataValue}
+use Rattle.ua_types.specs.declared.variant.Variant.{Variant}
+use Rattle.ua_types.specs.declared.variant.Variant.TheVariants as variants
 use Rattle.ua_binary.specs.Reading.{IsReadAgain}
 use Rattle.ua_binary.specs.Numbers.{boolean_reading, boolean_encoding, byte_reading, byte_encoding, number_reading, number_encoding, signed_reading, signed_encoding}
 use Rattle.ua_binary.specs.Parts.{flag}

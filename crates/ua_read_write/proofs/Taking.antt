@@ -2,10 +2,10 @@
 use Rattle.std.proofs.Common.{◌≡◌, ℕ, ◌+◌, ◌≤◌, true, false, ◌&&◌, eqb, Option, Some, None, refl, sym, ap, ◌∙◌, arith}
 use Rattle.std.proofs.lemmas.Bool.{eqb-true, leb-true, eq-eqb, and_parts}
 use Rattle.std.specs.Prelude.{is_none}
-use Rattle.ua_values.specs.Parts.{list_len, flat_len, flattened, with_part, HasRoom}
-use Rattle.ua_values.specs.Variants.{type_number}
-use Rattle.ua_values.specs.declared.variant.Variant.{Variant}
-use Rattle.ua_values.proofs.Parting.{len_flattened, shape_flattened, type_flattened, type_with_part, shape_with_part}
+use Rattle.ua_types.specs.Parts.{list_len, flat_len, flattened, with_part, HasRoom}
+use Rattle.ua_types.specs.Variants.{type_number}
+use Rattle.ua_types.specs.declared.variant.Variant.{Variant}
+use Rattle.ua_types.proofs.Parting.{len_flattened, shape_flattened, type_flattened, type_with_part, shape_with_part}
 use Rattle.ua_space.specs.Variables.{has_rank, is_of}
 use Rattle.ua_space.specs.declared.node.ValueRank.{ValueRank}
 use Rattle.ua_space.specs.declared.node.ValueRank.TheVariants as ranks

@@ -1,10 +1,10 @@
 -- The attributes of nodes: which class has which, and what each is (IEC 62541-3, 5.2 to 5.8).
 use Rattle.std.specs.Prelude.{ℕ, ℤ, pos, negsuc, Bool, Option, Some, None, option_map}
 use Rattle.ua_types.specs.NodeIds.{numeric_id}
-use Rattle.ua_values.specs.declared.content.Content.TheVariants.{Scalar}
-use Rattle.ua_values.specs.declared.variant.Variant.{Variant}
-use Rattle.ua_values.specs.declared.variant.Variant.TheVariants as variants
-use Rattle.ua_values.specs.Parts.{part_of}
+use Rattle.ua_types.specs.declared.content.Content.TheVariants.{Scalar}
+use Rattle.ua_types.specs.declared.variant.Variant.{Variant}
+use Rattle.ua_types.specs.declared.variant.Variant.TheVariants as variants
+use Rattle.ua_types.specs.Parts.{part_of}
 use Rattle.ua_space.specs.NodeClasses.{class_of}
 use Rattle.ua_space.specs.Variables.{VariableAttributes}
 use Rattle.ua_space.specs.declared.node.Node.{Node}

@@ -1,9 +1,9 @@
 -- What a variable is to hold, as the code has it until it is copied.
 use Rattle.std.specs.Prelude.{◌≡◌}
-use Rattle.ua_values.specs.Parts.{list_len, flat_len, flattened, with_part, HasRoom}
-use Rattle.ua_values.specs.Plain.{IsPlainValue}
-use Rattle.ua_values.specs.Variants.{type_number}
-use Rattle.ua_values.specs.declared.variant.Variant.{Variant}
+use Rattle.ua_types.specs.Parts.{list_len, flat_len, flattened, with_part, HasRoom}
+use Rattle.ua_types.specs.Plain.{IsPlainValue}
+use Rattle.ua_types.specs.Variants.{type_number}
+use Rattle.ua_types.specs.declared.variant.Variant.{Variant}
 use Rattle.ua_read_write.specs.declared.judging.NewValue.{NewValue}
 use Rattle.ua_read_write.specs.declared.judging.NewValue.TheVariants as news
 

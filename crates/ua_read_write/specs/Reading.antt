@@ -4,9 +4,9 @@ use Rattle.ua_types.specs.declared.moment.Moment.{Moment}
 use Rattle.ua_types.specs.declared.node_id.NodeId.{NodeId}
 use Rattle.ua_types.specs.declared.status.Status.{Status}
 use Rattle.ua_types.specs.declared.status.TheConstants.Status as status
-use Rattle.ua_values.specs.Parts.{list_len}
-use Rattle.ua_values.specs.declared.data_value.DataValue.{DataValue}
-use Rattle.ua_values.specs.declared.variant.Variant.{Variant}
+use Rattle.ua_types.specs.Parts.{list_len}
+use Rattle.ua_types.specs.declared.data_value.DataValue.{DataValue}
+use Rattle.ua_types.specs.declared.variant.Variant.{Variant}
 use Rattle.ua_messages.specs.declared.read_value_ids.ReadValueId.{ReadValueId}
 use Rattle.ua_space.specs.Nodes.{Nodes, node_at}
 use Rattle.ua_space.specs.Variables.{VariableAttributes}

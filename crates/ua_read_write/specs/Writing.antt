@@ -4,10 +4,10 @@ use Rattle.std.specs.List.{fold}
 use Rattle.ua_types.specs.declared.moment.Moment.{Moment}
 use Rattle.ua_types.specs.declared.status.Status.{Status}
 use Rattle.ua_types.specs.declared.status.TheConstants.Status as status
-use Rattle.ua_values.specs.Parts.{list_len, flat_len, flattened, with_part}
-use Rattle.ua_values.specs.Variants.{type_number}
-use Rattle.ua_values.specs.declared.data_value.DataValue.{DataValue}
-use Rattle.ua_values.specs.declared.variant.Variant.{Variant}
+use Rattle.ua_types.specs.Parts.{list_len, flat_len, flattened, with_part}
+use Rattle.ua_types.specs.Variants.{type_number}
+use Rattle.ua_types.specs.declared.data_value.DataValue.{DataValue}
+use Rattle.ua_types.specs.declared.variant.Variant.{Variant}
 use Rattle.ua_service_messages.specs.declared.writing.WriteValue.{WriteValue}
 use Rattle.ua_space.specs.Nodes.{Nodes, node_at}
 use Rattle.ua_space.specs.Values.{with_value}

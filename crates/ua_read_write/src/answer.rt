@@ -8,7 +8,7 @@ ghost use Rattle.ua_binary.specs.Scalars.{moment_reading, moment_encoding};
 ghost use Rattle.ua_read_write.specs.Answers.{scalar_encoding};
 ghost use Rattle.ua_read_write.specs.Attributes.{seen, with_part_alone};
 ghost use Rattle.ua_read_write.specs.Reading.{dated as dated_spec, refused as refused_spec, source_time_of, server_time_of};
-ghost use Rattle.ua_values.specs.Plain.{IsPlainValue};
+ghost use Rattle.ua_types.specs.Plain.{IsPlainValue};
 
 use crate::attributes::Attribute;
 use crate::copied_parts::copied_part;
@@ -18,8 +18,7 @@ use std::alloc::{AllocError, Global};
 use std::marker::Model;
 use ua_binary::{BorrowedDataValue, BorrowedVariant, Wire, Written};
 use ua_space::Variable;
-use ua_types::{Copyable, Moment, NodeId, Shared, Status};
-use ua_values::{Content, DataValue, Variant};
+use ua_types::{Content, Copyable, DataValue, Moment, NodeId, Shared, Status, Variant};
 
 /// The answer to one read: the attribute with the times that are wanted, or why it can't be read.
 ///
@@ -37,7 +36,7 @@ pub struct Answer<'a> {
 
 impl<'a> Model for Answer<'a> {
     ghost use Rattle.std.specs.Result.{result_map_both};
-    ghost use Rattle.ua_values.specs.declared.data_value.DataValue.{DataValue};
+    ghost use Rattle.ua_types.specs.declared.data_value.DataValue.{DataValue};
     ghost use Rattle.ua_read_write.specs.Attributes.{seen};
     ghost use Rattle.ua_read_write.specs.Reading.{answered};
 

@@ -1,13 +1,12 @@
 //! Copies of parts of lists.
 
 ghost use Rattle.std.specs.Prelude.{◌≡◌, IfOk, IsOk};
-ghost use Rattle.ua_values.specs.Parts.{part_in, part_of};
-ghost use Rattle.ua_values.specs.Plain.{IsOne, IsPlainValue};
+ghost use Rattle.ua_types.specs.Parts.{part_in, part_of};
+ghost use Rattle.ua_types.specs.Plain.{IsOne, IsPlainValue};
 
 use crate::index_range::IndexRange;
 use std::alloc::{AllocError, Global};
-use ua_types::{Copyable, Shared, SharedList, copy_all};
-use ua_values::{Content, Variant};
+use ua_types::{Content, Copyable, Shared, SharedList, Variant, copy_all};
 
 // These elements of a list without dimensions, or all of what is no such list. What is plain takes no memory.
 fn copied_content<T: Copyable>(

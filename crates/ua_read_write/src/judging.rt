@@ -7,15 +7,14 @@ ghost use Rattle.ua_read_write.specs.Judging.{new_value, IsReady, IsPlainNew};
 ghost use Rattle.ua_read_write.specs.Writing.{is_writable, has_elements, whole_judged, part_judged, content_judged, node_judged};
 ghost use Rattle.ua_space.specs.Values.{variable_of, variable_takes};
 ghost use Rattle.ua_space.specs.Variables.{shape_has_rank, takes};
-ghost use Rattle.ua_values.specs.Plain.{IsPlainValue};
+ghost use Rattle.ua_types.specs.Plain.{IsPlainValue};
 
 use crate::attributes::{Attribute, attribute_at};
 use crate::index_range::{IndexRange, asked_range};
 use std::alloc::{AllocError, Global};
 use ua_service_messages::WriteValueView;
 use ua_space::{Node, ValueRank, Variable};
-use ua_types::{Copyable, Status};
-use ua_values::{Shape, Variant};
+use ua_types::{Copyable, Shape, Status, Variant};
 use ua_views::VariantView;
 
 /// What a variable is to hold, where it stands yet.
@@ -178,7 +177,7 @@ pub(crate) fn judged<'a, 'b>(
 }
 
 // The value itself, where it is a list. The list as it stands is copied once.
-#[tactic(auto, using(ua_values::proofs::Parting::type_flattened, crate::proofs::Taking::has_room))]
+#[tactic(auto, using(ua_types::proofs::Parting::type_flattened, crate::proofs::Taking::has_room))]
 #[inline(never)]
 fn list_made(alloc: Global, new: NewValue<'_, '_>) -> Result<Variant, AllocError>
     requires { IsReady new }

@@ -12,19 +12,18 @@ ghost use Rattle.ua_read_write.specs.Attributes.{seen, IsWhole};
 ghost use Rattle.ua_read_write.specs.Reading.{is_readable, readable, readable_of, refusal_in, attribute_read, ranged, told_of, read_of, all_read};
 ghost use Rattle.ua_read_write.specs.declared.timestamps.Timestamps.TheVariants as timestamp_choices;
 ghost use Rattle.ua_types.specs.Given.{is_given};
-ghost use Rattle.ua_values.specs.Plain.{IsPlainValue};
+ghost use Rattle.ua_types.specs.Plain.{IsPlainValue};
 ghost use Rattle.ua_views.specs.Views.{or_none};
 
 use crate::answer::{Answer, copied, refused};
 use crate::attributes::{Attribute, attribute_at};
 use crate::index_range::{IndexRange, asked_range};
 use crate::timestamps::Timestamps;
-use number_slots::Near;
+use collections::Near;
 use std::alloc::{AllocError, Global};
 use ua_messages::{DiagnosticInfos, MessageBody, ReadValueIdView, ResponseHeader, type_ids};
 use ua_space::{Node, Space};
-use ua_types::{Moment, NodeId, Status};
-use ua_values::DataValue;
+use ua_types::{DataValue, Moment, NodeId, Status};
 use ua_views::ArrayView;
 
 // Whether AccessLevel lets it be read, which speaks of the value alone.

@@ -7,16 +7,15 @@ ghost use Rattle.ua_space.specs.NodePlaces.{place_of};
 ghost use Rattle.ua_space.specs.Values.{takes_at};
 ghost use Rattle.ua_types.specs.Refusals.{GivesOrRefuses};
 ghost use Rattle.ua_types.specs.declared.refusal.Refusal.TheVariants.{Memory};
-ghost use Rattle.ua_values.specs.Plain.{IsPlainValue};
+ghost use Rattle.ua_types.specs.Plain.{IsPlainValue};
 ghost use Rattle.ua_views.specs.Views.{or_none};
 
 use crate::judging::{judged, made};
-use number_slots::Near;
+use collections::Near;
 use std::alloc::{AllocError, Global};
 use ua_service_messages::WriteValueView;
 use ua_space::Space;
-use ua_types::{Copyable, Listed, Moment, NodeId, Refusal, Status};
-use ua_values::{DataValue, Variant};
+use ua_types::{Copyable, DataValue, Listed, Moment, NodeId, Refusal, Status, Variant};
 use ua_views::{ArrayView, DataValueView};
 
 /// A variable that was written.

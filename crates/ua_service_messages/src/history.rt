@@ -7,8 +7,9 @@ use std::alloc::{AllocError, Global};
 use std::marker::Model;
 use ua_binary::{Cursor, TakeFault, Wire};
 use ua_messages::{Results, TimestampsToReturn};
-use ua_types::{Array, ByteString, ExtensionObject, Moment, NodeId, QualifiedName, Status, Text};
-use ua_values::DataValue;
+use ua_types::{
+    Array, ByteString, DataValue, ExtensionObject, Moment, NodeId, QualifiedName, Status, Text,
+};
 use ua_views::{
     ArrayView, ByteStringView, ExtensionObjectView, NodeIdView, QualifiedNameView, Readable,
     TextView, View, look_enumeration,

@@ -6,8 +6,7 @@ use std::alloc::{AllocError, Global};
 use std::marker::Model;
 use ua_binary::{Cursor, TakeFault, Wire};
 use ua_messages::{ReadValueId, ReadValueIdView, Results, TimestampsToReturn};
-use ua_types::{Array, Duration};
-use ua_values::DataValue;
+use ua_types::{Array, DataValue, Duration};
 use ua_views::{ArrayView, Readable, View, look_enumeration};
 
 /// Asks for attributes of nodes (Read, IEC 62541-4, section 5, Attribute Service Set).

@@ -7,8 +7,7 @@ use std::alloc::{AllocError, Global};
 use std::marker::Model;
 use ua_binary::{Cursor, TakeFault, Wire};
 use ua_messages::Results;
-use ua_types::{Array, NodeId, Status, Text};
-use ua_values::DataValue;
+use ua_types::{Array, DataValue, NodeId, Status, Text};
 use ua_views::{ArrayView, DataValueView, NodeIdView, Readable, TextView, View};
 
 /// A new value for an attribute of a node (WriteValue, IEC 62541-4, section 5, Write).

@@ -10,7 +10,7 @@ use Rattle.std.specs.Borrow.{MutBor}
 use Rattle.std.specs.Option.{option_copied_mut, unwrap_or}
 use Rattle.std.specs.Ordering.{nat_cmp}
 use Rattle.std.specs.FinMap.{FinMap, get, insert}
-use Rattle.number_slots.proofs.NumberMaps.{insert_removed, remove_given, get_inserted}
+use Rattle.collections.proofs.NumberMaps.{insert_removed, remove_given, get_inserted}
 use Rattle.ua_types.specs.Answers.{Step}
 use Rattle.ua_types.specs.NodeIds.{numeric_id}
 use Rattle.ua_binary.specs.Arrays.{array_encoding}

@@ -9,8 +9,8 @@ use Rattle.ua_types.specs.NodeIdOrder.{id_cmp}
 use Rattle.ua_types.specs.declared.moment.Moment.{Moment}
 use Rattle.ua_types.specs.declared.node_id.NodeId.{NodeId}
 use Rattle.ua_types.specs.declared.status.Status.{Status}
-use Rattle.ua_values.specs.declared.data_value.DataValue.{DataValue}
-use Rattle.ua_values.specs.declared.variant.Variant.{Variant}
+use Rattle.ua_types.specs.declared.data_value.DataValue.{DataValue}
+use Rattle.ua_types.specs.declared.variant.Variant.{Variant}
 use Rattle.ua_service_messages.specs.declared.writing.WriteValue.{WriteValue}
 use Rattle.ua_space.specs.Nodes.{Nodes, node_at}
 use Rattle.ua_space.specs.Values.{variable_of, variable_in, variable_at, holding, put, with_value}

@@ -7,7 +7,7 @@ use Rattle.std.proofs.lemmas.List.{map-append, flat_map_more}
 use Rattle.std.proofs.lemmas.List.Elements.{All-append, All-cons, All-nil}
 use Rattle.ua_binary.specs.DataValues.{data_value_reading, data_value_encoding}
 use Rattle.ua_binary.specs.Reading.{IsReadAgain}
-use Rattle.ua_values.specs.declared.data_value.DataValue.{DataValue}
+use Rattle.ua_types.specs.declared.data_value.DataValue.{DataValue}
 use Rattle.ua_read_write.specs.declared.timestamps.Timestamps.{Timestamps}
 use Rattle.ua_history.specs.Histories.{Values}
 use Rattle.ua_history.specs.Intervals.{in_order}

@@ -8,7 +8,7 @@ use Rattle.ua_types.specs.declared.extension_object.ExtensionObjectBody.TheVaria
 use Rattle.ua_types.specs.declared.moment.Moment.{Moment}
 use Rattle.ua_types.specs.declared.status.Status.{Status}
 use Rattle.ua_types.specs.declared.status.TheConstants.Status as status
-use Rattle.ua_values.specs.declared.data_value.DataValue.{DataValue}
+use Rattle.ua_types.specs.declared.data_value.DataValue.{DataValue}
 use Rattle.ua_binary.specs.DataValues.{data_value_reading, data_value_encoding}
 use Rattle.ua_binary.specs.Reading.{IsReadAgain}
 use Rattle.ua_messages.specs.Structures.{object_around}

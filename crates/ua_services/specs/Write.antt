@@ -4,7 +4,7 @@ use Rattle.std.specs.List.{fold}
 use Rattle.ua_types.specs.declared.moment.Moment.{Moment}
 use Rattle.ua_types.specs.declared.node_id.NodeId.{NodeId}
 use Rattle.ua_types.specs.declared.status.Status.{Status}
-use Rattle.ua_values.specs.declared.data_value.DataValue.{DataValue}
+use Rattle.ua_types.specs.declared.data_value.DataValue.{DataValue}
 use Rattle.ua_messages.specs.declared.type_ids.TheConstants.{WRITE_RESPONSE}
 use Rattle.ua_service_messages.specs.declared.writing.WriteRequest.{WriteRequest}
 use Rattle.ua_service_messages.specs.declared.writing.WriteValue.{WriteValue}

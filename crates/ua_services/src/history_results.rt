@@ -19,8 +19,9 @@ use ua_messages::{MessageBody, type_ids};
 use ua_read_write::Timestamps;
 use ua_service_messages::HistoryReadResult;
 use ua_session::point_bytes;
-use ua_types::{ByteString, ExtensionObject, ExtensionObjectBody, Moment, NodeId, Refusal, Status};
-use ua_values::DataValue;
+use ua_types::{
+    ByteString, DataValue, ExtensionObject, ExtensionObjectBody, Moment, NodeId, Refusal, Status,
+};
 
 fn source_time(timestamps: Timestamps, value: &DataValue) -> Option<Moment>
     ensures { result ≡ source_time_of timestamps value.now }

@@ -11,8 +11,8 @@ ghost use Rattle.ua_services.specs.declared.caller.Caller.{Caller};
 
 use crate::caller::Caller;
 use crate::services::Services;
+use collections::ShortList;
 use server_messages::{Halt, Reply, Served, Setting};
-use short_lists::ShortList;
 use std::alloc::{AllocError, Global};
 use ua_messages::{Headed, MessageBody, fault, fields_view};
 use ua_types::{Listed, Moment, Refusal, Status};

@@ -9,8 +9,8 @@ ghost use Rattle.ua_services.specs.SubServing.{session_over, all_timed_out, time
 use crate::caller::Caller;
 use crate::service::reply;
 use crate::services::Services;
+use collections::ShortList;
 use server_messages::{Halt, Served, Setting};
-use short_lists::ShortList;
 use std::alloc::{AllocError, Global};
 use ua_messages::MessageBody;
 use ua_subscriptions::Answered;

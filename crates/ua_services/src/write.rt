@@ -14,7 +14,7 @@ use crate::service::reply;
 use crate::services::Services;
 use crate::session_service::SessionService;
 use crate::status_results::statuses_body;
-use number_slots::Near;
+use collections::Near;
 use server_messages::{Served, Setting, Stored};
 use std::alloc::{AllocError, Global};
 use ua_history::History;
@@ -22,8 +22,7 @@ use ua_messages::type_ids;
 use ua_read_write::{AcceptedValue, accepted};
 use ua_service_messages::{WriteRequestView, WriteValueView};
 use ua_space::{Node, NodeDetails};
-use ua_types::{Copyable, Listed, Moment, Refusal, Status};
-use ua_values::DataValue;
+use ua_types::{Copyable, DataValue, Listed, Moment, Refusal, Status};
 use ua_views::ArrayView;
 
 // Whether the values of this node are kept.

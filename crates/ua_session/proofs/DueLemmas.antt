@@ -8,7 +8,7 @@ use Rattle.std.specs.declared.cmp.Ordering.TheVariants.{Less, Equal, Greater}
 use Rattle.std.specs.Cmp.{nat_cmp_total, eq_by_cmp_equiv}
 use Rattle.std.specs.FinMap.{FinMap, get, insert, remove, entries, empty, get-empty, get-insert, get-remove, get-entries, entries_sorted, is_sorted, find}
 use Rattle.std.specs.FinMap.Entries.{below_all}
-use Rattle.number_slots.proofs.NumberMaps.{same_number}
+use Rattle.collections.proofs.NumberMaps.{same_number}
 use Rattle.ua_types.specs.declared.moment.Moment.{Moment}
 use Rattle.ua_session.specs.SessionTables.{due_in, IsNoneDueBefore}
 use Rattle.ua_session.specs.declared.session.Session.{Session}

@@ -4,7 +4,7 @@ use Rattle.std.specs.Ordering.{nat_cmp, eq_by_cmp}
 use Rattle.std.specs.Cmp.{nat_cmp_total}
 use Rattle.std.specs.FinMap.{FinMap, get, insert, remove, entries, empty, get-empty, get-insert, get-remove}
 use Rattle.std.proofs.lemmas.Bool.{false≢true, leb-false, leb-true}
-use Rattle.number_slots.proofs.NumberMaps.{told_apart}
+use Rattle.collections.proofs.NumberMaps.{told_apart}
 use Rattle.ua_types.specs.declared.moment.Moment.{Moment}
 use Rattle.ua_session.specs.Points.{PointsState}
 use Rattle.ua_session.specs.SessionTables.{due_in, IsNoneDueBefore}

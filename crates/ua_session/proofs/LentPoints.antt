@@ -4,7 +4,7 @@ use Rattle.std.proofs.lemmas.Bool.{false≢true}
 use Rattle.std.specs.Ordering.{nat_cmp}
 use Rattle.std.specs.Option.{unwrap_or}
 use Rattle.std.specs.FinMap.{FinMap, get, insert}
-use Rattle.number_slots.proofs.NumberMaps.{insert_same}
+use Rattle.collections.proofs.NumberMaps.{insert_same}
 use Rattle.ua_session.specs.Points.{PointsState}
 use Rattle.ua_session.specs.Sessions.{SessionsState, with_points}
 

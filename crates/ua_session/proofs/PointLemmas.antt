@@ -4,7 +4,7 @@ use Rattle.std.proofs.lemmas.Bool.{leb-false}
 use Rattle.std.specs.Cmp.{nat_cmp_total}
 use Rattle.std.specs.FinMap.{FinMap, get, insert, remove, len, len-empty, len-insert, len-remove, contains_key, get-empty, get-insert, get-remove}
 use Rattle.std.specs.Ordering.{nat_cmp, eq_by_cmp}
-use Rattle.number_slots.proofs.NumberMaps.{get_inserted_elsewhere}
+use Rattle.collections.proofs.NumberMaps.{get_inserted_elsewhere}
 use Rattle.ua_types.specs.Answers.{step}
 use Rattle.ua_types.specs.declared.status.TheConstants.Status as status
 use Rattle.ua_session.specs.PointLaws.{IsSound, StaySound}

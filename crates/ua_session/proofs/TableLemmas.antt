@@ -10,7 +10,7 @@ use Rattle.std.specs.BTreeMap.{is_at, insert_entry}
 use Rattle.std.proofs.lemmas.Bool.{false≢true, eqb-true, eq-eqb}
 use Rattle.std.proofs.lemmas.List.Sums.{sum_by-set}
 use Rattle.std.proofs.lemmas.List.{get_or-set_same, get_or-set_other}
-use Rattle.number_slots.proofs.NumberMaps.{entries_are, get_is, numbers_same, one_given, one_gone, same_number}
+use Rattle.collections.proofs.NumberMaps.{entries_are, get_is, numbers_same, one_given, one_gone, same_number}
 use Rattle.ua_session.specs.SessionTables.{is_due, due_in, slot_at, held_at, held_in, AreNumbered}
 use Rattle.ua_types.specs.declared.moment.Moment.{Moment}
 use Rattle.ua_session.specs.declared.session.Session.{Session}

@@ -17,7 +17,7 @@ use Rattle.std.proofs.lemmas.Option.{slice_get_within, get_or_from_slice_get}
 use Rattle.ua_types.specs.NodeIdOrder.{id_cmp}
 use Rattle.ua_types.specs.declared.node_id.NodeId.{NodeId}
 use Rattle.ua_types.specs.contracts.node_id.NodeIdOrd.TheImpl.Laws.{total-law}
-use Rattle.ua_values.specs.declared.data_value.DataValue.{DataValue}
+use Rattle.ua_types.specs.declared.data_value.DataValue.{DataValue}
 use Rattle.ua_space.specs.declared.node.Node.{Node}
 use Rattle.ua_space.specs.Nodes.{Nodes, node_at}
 use Rattle.ua_space.specs.declared.node.NodeDetails.{NodeDetails}

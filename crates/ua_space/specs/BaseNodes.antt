@@ -3,11 +3,11 @@
 use Rattle.std.specs.Prelude.{ℕ, pos, List, [], ◌∷◌, ◌++◌, map, Option, Some, None, codes, false, unwrap_or}
 use Rattle.ua_types.specs.Configuration.{Configuration}
 use Rattle.ua_types.specs.NodeIds.{numeric_id}
-use Rattle.ua_values.specs.declared.content.Content.TheVariants as content
-use Rattle.ua_values.specs.declared.data_value.DataValue.{DataValue}
-use Rattle.ua_values.specs.declared.variant.Variant.{Variant}
-use Rattle.ua_values.specs.declared.variant.Variant.TheVariants as variants
-use Rattle.ua_values.specs.DataValues.{value_since}
+use Rattle.ua_types.specs.declared.content.Content.TheVariants as content
+use Rattle.ua_types.specs.declared.data_value.DataValue.{DataValue}
+use Rattle.ua_types.specs.declared.variant.Variant.{Variant}
+use Rattle.ua_types.specs.declared.variant.Variant.TheVariants as variants
+use Rattle.ua_types.specs.DataValues.{value_since}
 use Rattle.ua_space.specs.declared.base.Kind.{Kind}
 use Rattle.ua_space.specs.declared.base.Kind.TheVariants as kinds
 use Rattle.ua_space.specs.declared.node.Node.{Node}

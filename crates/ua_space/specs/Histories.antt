@@ -2,7 +2,7 @@
 use Rattle.std.specs.Prelude.{ℕ, zero, suc, map, Bool, true, false, ◌&&◌, ◌||◌, List, [], ◌∷◌, Option, Some, None, is_some, int_lt}
 use Rattle.std.specs.List.{list_all}
 use Rattle.ua_types.specs.declared.moment.Moment.{Moment}
-use Rattle.ua_values.specs.declared.data_value.DataValue.{DataValue}
+use Rattle.ua_types.specs.declared.data_value.DataValue.{DataValue}
 use Rattle.ua_types.specs.declared.node_id.NodeId.{NodeId}
 use Rattle.ua_space.specs.Nodes.{Nodes}
 use Rattle.ua_space.specs.declared.node.Node.{Node}

@@ -1,11 +1,11 @@
 -- Variables: what they have beside the attributes of all nodes, and which values they take (IEC 62541-3, 5.6.2).
 use Rattle.std.specs.Prelude.{◌≡◌, ℕ, ◌≤◌, ◌<◌, Bool, true, false, ◌==◌, ◌&&◌, Option, Some, None}
-use Rattle.ua_values.specs.Variants.{type_number}
-use Rattle.ua_values.specs.Shapes.{shape_of}
-use Rattle.ua_values.specs.declared.data_value.DataValue.{DataValue}
-use Rattle.ua_values.specs.declared.shape.Shape.{Shape}
-use Rattle.ua_values.specs.declared.shape.Shape.TheVariants as shapes
-use Rattle.ua_values.specs.declared.variant.Variant.{Variant}
+use Rattle.ua_types.specs.Variants.{type_number}
+use Rattle.ua_types.specs.Shapes.{shape_of}
+use Rattle.ua_types.specs.declared.data_value.DataValue.{DataValue}
+use Rattle.ua_types.specs.declared.shape.Shape.{Shape}
+use Rattle.ua_types.specs.declared.shape.Shape.TheVariants as shapes
+use Rattle.ua_types.specs.declared.variant.Variant.{Variant}
 use Rattle.ua_space.specs.declared.node.ValueRank.{ValueRank}
 use Rattle.ua_space.specs.declared.node.ValueRank.TheVariants as ranks
 

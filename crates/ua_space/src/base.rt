@@ -5,9 +5,9 @@ ghost use Rattle.std.specs.List.{All};
 ghost use Rattle.ua_space.specs.BaseNodes.{standard_node, readable, details_of, server_array, namespaces, namespace_array, state, base_nodes, base_triple, base_triples, base_objects, base_variables, base_object_types, base_variable_types, base_reference_types};
 ghost use Rattle.ua_space.specs.Spaces.{most_triples};
 ghost use Rattle.ua_space.specs.Variables.{is_of};
-ghost use Rattle.ua_values.specs.DataValues.{value_since};
-ghost use Rattle.ua_values.specs.declared.content.Content.TheVariants as content;
-ghost use Rattle.ua_values.specs.declared.variant.Variant.TheVariants as variants;
+ghost use Rattle.ua_types.specs.DataValues.{value_since};
+ghost use Rattle.ua_types.specs.declared.content.Content.TheVariants as content;
+ghost use Rattle.ua_types.specs.declared.variant.Variant.TheVariants as variants;
 
 use crate::node::{Node, NodeDetails, ValueRank, Variable};
 use crate::standard_ids::{
@@ -19,10 +19,9 @@ use crate::standard_ids::{
 use crate::triple::{Part, Triple};
 use std::alloc::{AllocError, Global};
 use ua_types::{
-    Config, Copyable, Listed, LocalizedText, Moment, NodeId, QualifiedName, SharedList, Status,
-    Text,
+    Config, Content, Copyable, DataValue, Listed, LocalizedText, Moment, NodeId, QualifiedName,
+    SharedList, Status, Text, Variant,
 };
-use ua_values::{Content, DataValue, Variant};
 
 // A node of namespace 0 that is displayed by its name, with no history.
 fn standard_node(

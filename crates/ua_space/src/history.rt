@@ -4,8 +4,7 @@ ghost use Rattle.std.specs.Prelude.{◌≡◌};
 ghost use Rattle.ua_space.specs.Histories.{follows, is_historizing, is_history, rises};
 
 use crate::node::{Node, NodeDetails};
-use ua_types::Moment;
-use ua_values::DataValue;
+use ua_types::{DataValue, Moment};
 
 // Whether the node is a Variable whose history the server keeps.
 fn is_historizing(details: &NodeDetails) -> bool

@@ -5,8 +5,9 @@ ghost use Rattle.ua_space.specs.NodeClasses.{class_of};
 ghost use Rattle.ua_space.specs.Variables.{has_rank, takes, takes_if_any};
 
 use std::marker::Model;
-use ua_types::{Listed, LocalizedText, NodeClass, NodeId, QualifiedName};
-use ua_values::{DataValue, Shape, Variant};
+use ua_types::{
+    DataValue, Listed, LocalizedText, NodeClass, NodeId, QualifiedName, Shape, Variant,
+};
 
 /// Whether a variable holds one value or a list (ValueRank, IEC 62541-3, 5.6.2), with the standard's
 /// numbers.

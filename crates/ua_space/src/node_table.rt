@@ -10,14 +10,13 @@ ghost use Rattle.ua_space.specs.Values.{takes_at, with_value};
 
 use crate::guesses::Guesses;
 use crate::node::{Node, NodeDetails};
-use number_slots::Near;
+use collections::Near;
 use std::alloc::{AllocError, Global};
 use std::cmp::Ordering;
 use std::collections::BTreeMap;
 use std::marker::Model;
 use std::mem;
-use ua_types::{Listed, NodeId};
-use ua_values::DataValue;
+use ua_types::{DataValue, Listed, NodeId};
 use ua_views::{NodeIdView, compare};
 
 /// Nodes under their ids.

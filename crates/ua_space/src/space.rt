@@ -8,11 +8,10 @@ use crate::references::{References, TripleList};
 use crate::subtype_set::{Subtypes, walked_down};
 use crate::subtypes::is_subtype;
 use crate::triple::Triple;
-use number_slots::Near;
+use collections::Near;
 use std::alloc::{AllocError, Global};
 use std::marker::Model;
-use ua_types::{Listed, NodeId};
-use ua_values::DataValue;
+use ua_types::{DataValue, Listed, NodeId};
 use ua_views::NodeIdView;
 
 /// The nodes of a server and the references between them, the base set included.

@@ -7,8 +7,7 @@ use crate::enumerations::DataChangeTrigger;
 use std::alloc::{AllocError, Global};
 use std::marker::Model;
 use ua_binary::{Cursor, TakeFault, Wire};
-use ua_types::{Duration, ExtensionObject};
-use ua_values::Double;
+use ua_types::{Double, Duration, ExtensionObject};
 use ua_views::{ExtensionObjectView, Readable, View, look_enumeration};
 
 /// How a client wants an item to be monitored (MonitoringParameters, IEC 62541-4, section 7).

@@ -8,8 +8,7 @@ use std::alloc::{AllocError, Global};
 use std::marker::Model;
 use ua_binary::{Cursor, TakeFault, Wire};
 use ua_messages::{DiagnosticInfo, DiagnosticInfos, ResponseHeader};
-use ua_types::{Array, ExtensionObject, Moment, Status};
-use ua_values::DataValue;
+use ua_types::{Array, DataValue, ExtensionObject, Moment, Status};
 use ua_views::{ArrayView, Readable, View};
 
 /// A message that the client has and the server need not keep: an element of [`PublishRequest`]

@@ -8,7 +8,7 @@ use Rattle.std.specs.Map.{lookup, keys_of, set_value}
 use Rattle.std.specs.Ordering.{nat_cmp, is_eq, ordering_then}
 use Rattle.std.specs.declared.cmp.Ordering.{Ordering}
 use Rattle.std.specs.declared.cmp.Ordering.TheVariants.{Less, Equal, Greater}
-use Rattle.number_slots.proofs.NumberMaps.{same_number, numbers_same}
+use Rattle.collections.proofs.NumberMaps.{same_number, numbers_same}
 use Rattle.ua_subscriptions.specs.declared.askers.Asker.{Asker}
 use Rattle.ua_subscriptions.specs.declared.publish_call.PublishCall.{PublishCall}
 use Rattle.ua_subscriptions.specs.declared.session_part.SessionSubscriptions.{SessionSubscriptions}

@@ -12,7 +12,7 @@ use Rattle.std.specs.Ordering.{nat_cmp, int_cmp, int_eq, is_eq, ordering_then}
 use Rattle.std.specs.declared.cmp.Ordering.{Ordering}
 use Rattle.std.specs.declared.cmp.Ordering.TheVariants.{Less, Equal, Greater}
 use Rattle.ua_types.specs.declared.moment.Moment.{Moment}
-use Rattle.number_slots.proofs.NumberMaps.{same_number, numbers_same}
+use Rattle.collections.proofs.NumberMaps.{same_number, numbers_same}
 use Rattle.ua_subscriptions.specs.declared.due_list.Due.{Due}
 use Rattle.ua_subscriptions.specs.declared.ranks.Rank.{Rank}
 use Rattle.ua_subscriptions.specs.declared.subscription.Subscription.{Subscription}

@@ -10,7 +10,7 @@ use Rattle.std.specs.Map.{lookup, keys_of, set_value, remove_entry}
 use Rattle.std.specs.Ordering.{nat_cmp, match_ordering, is_eq}
 use Rattle.std.specs.declared.cmp.Ordering.{Ordering}
 use Rattle.std.specs.declared.cmp.Ordering.TheVariants.{Less, Equal, Greater}
-use Rattle.number_slots.proofs.NumberMaps.{same_number, numbers_same, told_apart}
+use Rattle.collections.proofs.NumberMaps.{same_number, numbers_same, told_apart}
 
 pub apart : (q k : ℕ) → q ≢ k → is_at (nat_cmp q) k ≡ false
 apart q k other = told_apart q k (nat_cmp q k) refl other

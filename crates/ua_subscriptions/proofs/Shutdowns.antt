@@ -6,7 +6,7 @@ use Rattle.std.specs.Ordering.{nat_cmp}
 use Rattle.server_messages.specs.declared.halt.Halt.{Halt}
 use Rattle.server_messages.specs.declared.halt.Halt.TheVariants.{Memory, Exhausted}
 use Rattle.ua_monitored_items.specs.Items.{ItemsState}
-use Rattle.number_slots.proofs.NumberMaps.{numbers_same}
+use Rattle.collections.proofs.NumberMaps.{numbers_same}
 use Rattle.ua_subscriptions.specs.declared.call.Call.TheVariants.{Shutdown}
 use Rattle.ua_subscriptions.specs.declared.publish_call.PublishCall.{PublishCall}
 use Rattle.ua_subscriptions.specs.declared.session_part.SessionSubscriptions.{SessionSubscriptions}

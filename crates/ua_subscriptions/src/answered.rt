@@ -1,7 +1,7 @@
 //! What a call of the subscriptions gives.
 
+use collections::ShortList;
 use server_messages::{Fired, Reply};
-use short_lists::ShortList;
 use ua_types::Listed;
 
 /// What a call of the subscriptions gives beside its own answer.

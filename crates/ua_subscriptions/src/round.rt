@@ -5,8 +5,8 @@ ghost use Rattle.std.specs.Prelude.{◌≡◌};
 use crate::call::Call;
 use crate::publish_call::PublishCall;
 use crate::settings::Bounds;
+use collections::ShortList;
 use server_messages::{Fired, Reply};
-use short_lists::ShortList;
 use ua_subscription_messages::SubscriptionId;
 use ua_types::{Listed, Moment};
 

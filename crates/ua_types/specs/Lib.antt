@@ -10,3 +10,11 @@ pub mod Refusals
 pub mod Moments
 pub mod NodeClasses
 pub mod IdOrder
+pub mod Matrices
+pub mod Variants
+pub mod Shapes
+pub mod Contents
+pub mod ValueTypes
+pub mod DataValues
+pub mod Parts
+pub mod Plain

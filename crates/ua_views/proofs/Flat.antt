@@ -3,9 +3,9 @@ use Rattle.std.proofs.Common.{◌≡◌, ◌<◌, ◌≤◌, ℕ, List, [], ◌�
 use Rattle.std.specs.Prelude.{option_map, is_none}
 use Rattle.std.specs.Int.{w32}
 use Rattle.std.proofs.lemmas.Result.{IfOk-at_ok}
-use Rattle.ua_values.specs.Matrices.{is_shape}
-use Rattle.ua_values.specs.Parts.{flat_len_of, flat_len_in}
-use Rattle.ua_values.specs.declared.content.Content.TheVariants.{Array}
+use Rattle.ua_types.specs.Matrices.{is_shape}
+use Rattle.ua_types.specs.Parts.{flat_len_of, flat_len_in}
+use Rattle.ua_types.specs.declared.content.Content.TheVariants.{Array}
 use Rattle.ua_binary.specs.Numbers.{number_reading}
 use Rattle.ua_binary.specs.Arrays.{elements_reading}
 use Rattle.ua_binary.proofs.Counts.{counted}

@@ -7,14 +7,14 @@ use Rattle.ua_types.specs.NodeIds.{IsPlainId}
 use Rattle.ua_types.specs.declared.node_id.NodeId.{NodeId}
 use Rattle.ua_types.specs.declared.node_id.Identifier.{Identifier}
 use Rattle.ua_types.specs.declared.node_id.Identifier.TheVariants as identifiers
-use Rattle.ua_values.specs.Plain.{IsOne, IsScalar, IsPlainValue}
-use Rattle.ua_values.specs.Shapes.{shape_in}
-use Rattle.ua_values.specs.declared.content.Content.{Content}
-use Rattle.ua_values.specs.declared.content.Content.TheVariants.{Scalar, Array, Matrix}
-use Rattle.ua_values.specs.declared.shape.Shape.{Shape}
-use Rattle.ua_values.specs.declared.shape.Shape.TheVariants as shapes
-use Rattle.ua_values.specs.declared.variant.Variant.{Variant}
-use Rattle.ua_values.specs.declared.variant.Variant.TheVariants as variants
+use Rattle.ua_types.specs.Plain.{IsOne, IsScalar, IsPlainValue}
+use Rattle.ua_types.specs.Shapes.{shape_in}
+use Rattle.ua_types.specs.declared.content.Content.{Content}
+use Rattle.ua_types.specs.declared.content.Content.TheVariants.{Scalar, Array, Matrix}
+use Rattle.ua_types.specs.declared.shape.Shape.{Shape}
+use Rattle.ua_types.specs.declared.shape.Shape.TheVariants as shapes
+use Rattle.ua_types.specs.declared.variant.Variant.{Variant}
+use Rattle.ua_types.specs.declared.variant.Variant.TheVariants as variants
 use Rattle.ua_binary.specs.declared.fault.TakeFault.{TakeFault}
 use Rattle.ua_binary.specs.declared.fault.TakeFault.TheVariants.{Form}
 use Rattle.ua_binary.specs.Reading.{Reading, go_on, done, refuse}

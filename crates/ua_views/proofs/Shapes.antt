@@ -4,7 +4,7 @@ use Rattle.std.proofs.Math.Nat.{mul_assoc, mul-suc}
 use Rattle.std.proofs.lemmas.Bool.{cases_lt}
 use Rattle.std.proofs.lemmas.Bool.Decides.{nat_tests}
 use Rattle.std.specs.List.{list_all}
-use Rattle.ua_values.specs.Matrices.{product, is_shape}
+use Rattle.ua_types.specs.Matrices.{product, is_shape}
 use Rattle.ua_views.specs.Shapes.{with_dimension}
 
 -- the dimensions to come make of this size so many elements
@@ -12,7 +12,7 @@ abbrev pub in_shape : Option ℕ → ℕ → List ℕ → Bool
 in_shape None count ds = false
 in_shape (Some size) count ds = list_all (λ d. ltb d (2 ^ 31)) ds && (min (size * product ds) (2 ^ 64 - 1) == count)
 
--- ---- products up to a greatest number, as in `ua_values`, which keeps these to itself
+-- ---- products up to a greatest number, as in `ua_types`, which keeps these to itself
 
 grows : (p top d : ℕ) → top ≤ p → min (p * suc d) top ≡ top
 grows p top d le = let more : p * suc d ≡ p * d + p = mul-suc p d in omega arith

@@ -3,21 +3,21 @@ use Rattle.std.proofs.Common.{◌≡◌, ℕ, ◌/◌, ◌%◌, Bool, true, fals
 use Rattle.std.proofs.lemmas.Bool.{eqb-true}
 use Rattle.std.specs.Int.{w32}
 use Rattle.std.specs.Prelude.{IsOk}
-use Rattle.ua_values.specs.Matrices.{is_shape}
-use Rattle.ua_values.specs.Shapes.{shape_in, shape_of}
-use Rattle.ua_values.specs.Variants.{type_number}
-use Rattle.ua_values.specs.declared.content.Content.{Content}
-use Rattle.ua_values.specs.declared.content.Content.TheVariants.{Scalar, Array, Matrix}
-use Rattle.ua_values.specs.declared.shape.Shape.{Shape}
-use Rattle.ua_values.specs.declared.shape.Shape.TheVariants as shapes
-use Rattle.ua_values.specs.declared.variant.Variant.{Variant}
-use Rattle.ua_values.specs.declared.variant.Variant.TheVariants as variants
+use Rattle.ua_types.specs.Matrices.{is_shape}
+use Rattle.ua_types.specs.Shapes.{shape_in, shape_of}
+use Rattle.ua_types.specs.Variants.{type_number}
+use Rattle.ua_types.specs.declared.content.Content.{Content}
+use Rattle.ua_types.specs.declared.content.Content.TheVariants.{Scalar, Array, Matrix}
+use Rattle.ua_types.specs.declared.shape.Shape.{Shape}
+use Rattle.ua_types.specs.declared.shape.Shape.TheVariants as shapes
+use Rattle.ua_types.specs.declared.variant.Variant.{Variant}
+use Rattle.ua_types.specs.declared.variant.Variant.TheVariants as variants
 use Rattle.ua_binary.specs.declared.fault.TakeFault.{TakeFault}
 use Rattle.ua_binary.specs.declared.fault.TakeFault.TheVariants.{Form}
 use Rattle.ua_binary.specs.Reading.{Reading, go_on, done, refuse}
 use Rattle.ua_binary.specs.Arrays.{array_reading}
 use Rattle.ua_binary.specs.Numbers.{byte_reading, number_reading}
-use Rattle.ua_values.specs.Matrices.{or_none}
+use Rattle.ua_types.specs.Matrices.{or_none}
 use Rattle.ua_binary.specs.Variants.{in_dimensions, content_reading, variant_of, typed_reading, variant_reading}
 use Rattle.ua_views.specs.Views.{value_or}
 use Rattle.ua_views.specs.VariantBytes.{shape_flagged, shape_announced}

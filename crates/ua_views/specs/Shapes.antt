@@ -1,6 +1,6 @@
 -- The size of dimensions, one after another, and how many they are.
 use Rattle.std.specs.Prelude.{ℕ, ◌*◌, ◌^◌, ◌-◌, min, List, length, Option, Some, None, nat_lt, if◌then◌else◌}
-use Rattle.ua_values.specs.Matrices.{is_shape}
+use Rattle.ua_types.specs.Matrices.{is_shape}
 
 -- the product with one dimension more, up to the greatest number; none where a dimension is negative, which as an
 -- unsigned number is 2 ^ 31 or more

@@ -4,15 +4,14 @@ ghost use Rattle.std.specs.Prelude.{◌≡◌, ◌≢◌, Err, IfSome, IfOk, IsO
 ghost use Rattle.ua_binary.specs.declared.fault.TakeFault.TheVariants.{Memory};
 ghost use Rattle.ua_binary.specs.DataValues.{optional_reading, data_value_reading};
 ghost use Rattle.ua_binary.specs.Reading.{Reads};
-ghost use Rattle.ua_values.specs.Plain.{IsPlainValue};
+ghost use Rattle.ua_types.specs.Plain.{IsPlainValue};
 
 use crate::variants::VariantView;
 use crate::view::{Readable, View};
 use std::alloc::{AllocError, Global};
 use std::marker::Model;
 use ua_binary::{Cursor, TakeFault};
-use ua_types::{Moment, Status};
-use ua_values::DataValue;
+use ua_types::{DataValue, Moment, Status};
 
 /// A [`DataValue`] in the bytes that it stands in.
 #[derive(Debug)]
@@ -28,7 +27,7 @@ pub struct DataValueView<'a> {
 }
 
 impl<'a> Model for DataValueView<'a> {
-    ghost use Rattle.ua_values.specs.declared.data_value.DataValue.{DataValue};
+    ghost use Rattle.ua_types.specs.declared.data_value.DataValue.{DataValue};
 
     ghost Value = { DataValue };
 

@@ -2,12 +2,12 @@
 
 ghost use Rattle.std.specs.Prelude.{◌≡◌, ◌≢◌, ◌≤◌, Err, length, option_map};
 ghost use Rattle.std.specs.Int.{w32};
-ghost use Rattle.ua_values.specs.Matrices.{is_shape};
-ghost use Rattle.ua_values.specs.Parts.{flat_len_in, flat_len};
+ghost use Rattle.ua_types.specs.Matrices.{is_shape};
+ghost use Rattle.ua_types.specs.Parts.{flat_len_in, flat_len};
 ghost use Rattle.ua_binary.specs.declared.fault.TakeFault.TheVariants.{Memory};
 ghost use Rattle.ua_binary.specs.Numbers.{number_reading};
 ghost use Rattle.ua_binary.specs.Arrays.{array_reading, elements_reading};
-ghost use Rattle.ua_values.specs.Matrices.{or_none};
+ghost use Rattle.ua_types.specs.Matrices.{or_none};
 ghost use Rattle.ua_binary.specs.Variants.{content_reading, typed_reading, variant_reading};
 ghost use Rattle.ua_views.specs.Passing.{Tells};
 ghost use Rattle.ua_views.specs.Shapes.{with_dimension as with_dimension_spec, rank_where_shaped};
@@ -18,8 +18,7 @@ use crate::structures::{ExtensionObjectView, LocalizedTextView, QualifiedNameVie
 use crate::texts::{ByteStringView, TextView};
 use crate::view::View;
 use ua_binary::{Cursor, TakeFault};
-use ua_types::{Guid, Moment, Status};
-use ua_values::{Double, Float};
+use ua_types::{Double, Float, Guid, Moment, Status};
 
 // The size with one dimension more: None once a dimension is negative, as an Int32.
 fn with_dimension(size: Option<u64>, dimension: u32) -> Option<u64>
@@ -34,7 +33,7 @@ fn with_dimension(size: Option<u64>, dimension: u32) -> Option<u64>
     Some(size.saturating_mul(dimension as u64))
 }
 
-// Moves past so many dimensions, and tells whether so many elements lie in them, as `ua_values::has_shape` tells of a
+// Moves past so many dimensions, and tells whether so many elements lie in them, as `ua_types::has_shape` tells of a
 // slice.
 fn pass_shape(rank: u32, count: u32, cursor: &mut Cursor<'_>) -> Result<bool, TakeFault>
     ensures tells { Tells (λ dimensions. is_shape dimensions count) result cursor.new (elements_reading (number_reading w32) rank cursor.old) }

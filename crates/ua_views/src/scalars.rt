@@ -12,8 +12,7 @@ ghost use Rattle.ua_binary.specs.Scalars.{moment_reading, status_reading, durati
 
 use crate::view::{Readable, View};
 use ua_binary::{Cursor, Enumeration, TakeFault};
-use ua_types::{Duration, Guid, Moment, Status};
-use ua_values::{Double, Float};
+use ua_types::{Double, Duration, Float, Guid, Moment, Status};
 
 impl Readable for bool {
     ghost reading = { boolean_reading };

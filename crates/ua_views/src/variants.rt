@@ -2,10 +2,10 @@
 
 ghost use Rattle.std.specs.Prelude.{◌≡◌, ◌%◌, IfOk, IsOk};
 ghost use Rattle.ua_binary.specs.Variants.{variant_reading};
-ghost use Rattle.ua_values.specs.Parts.{flat_len};
-ghost use Rattle.ua_values.specs.Plain.{IsPlainValue};
-ghost use Rattle.ua_values.specs.Shapes.{shape_of};
-ghost use Rattle.ua_values.specs.Variants.{type_number};
+ghost use Rattle.ua_types.specs.Parts.{flat_len};
+ghost use Rattle.ua_types.specs.Plain.{IsPlainValue};
+ghost use Rattle.ua_types.specs.Shapes.{shape_of};
+ghost use Rattle.ua_types.specs.Variants.{type_number};
 ghost use Rattle.ua_views.specs.VariantBytes.{shape_announced};
 
 use crate::passing::pass_variant;
@@ -13,7 +13,7 @@ use crate::view::{Readable, View};
 use std::alloc::{AllocError, Global};
 use std::marker::Model;
 use ua_binary::{Cursor, TakeFault, decode_variant};
-use ua_values::{Shape, Variant};
+use ua_types::{Shape, Variant};
 
 /// A [`Variant`] in the bytes that it stands in.
 ///
@@ -28,8 +28,8 @@ pub struct VariantView<'a> {
 impl<'a> Model for VariantView<'a> {
     ghost use Rattle.std.specs.Prelude.{IsOk};
     ghost use Rattle.ua_binary.specs.Variants.{variant_reading};
-    ghost use Rattle.ua_values.specs.declared.variant.Variant.{Variant};
-    ghost use Rattle.ua_values.specs.declared.variant.Variant.TheVariants.{Null};
+    ghost use Rattle.ua_types.specs.declared.variant.Variant.{Variant};
+    ghost use Rattle.ua_types.specs.declared.variant.Variant.TheVariants.{Null};
     ghost use Rattle.ua_views.specs.Views.{value_or};
 
     ghost Value = { Variant };

@@ -8,11 +8,13 @@
 //! standard streams, and ends with its status.
 #![tactic(auto)]
 
+mod store_files;
+
+use crate::store_files::StoreFiles;
 use std::alloc::AllocError;
 use std::env;
 use std::io::ErrorKind;
 use std::process::ExitCode;
-use store_files::StoreFiles;
 use stream_taps::Tap;
 
 // The program's name and the words behind it. Where one isn't UTF-8 a word that names no command stands in their place.

@@ -13,7 +13,7 @@ use Rattle.ua_types.specs.IdTexts.{id_text}
 use Rattle.ua_types.specs.NodeIdOrder.{id_cmp}
 use Rattle.ua_types.specs.declared.moment.Moment.{Moment}
 use Rattle.ua_types.specs.declared.node_id.NodeId.{NodeId}
-use Rattle.ua_values.specs.declared.data_value.DataValue.{DataValue}
+use Rattle.ua_types.specs.declared.data_value.DataValue.{DataValue}
 use Rattle.ua_types.specs.contracts.node_id.NodeIdOrd.TheImpl.Laws.{total-law}
 use Rattle.server_messages.specs.Kept.{is_same, is_at_time, value_among, past_among, read_back, AreAlike}
 use Rattle.server_messages.specs.declared.kept_values.KeptValue.{KeptValue}

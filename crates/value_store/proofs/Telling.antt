@@ -11,7 +11,7 @@ use Rattle.ua_types.specs.declared.moment.Moment.{Moment}
 use Rattle.ua_types.specs.declared.node_id.NodeId.{NodeId}
 use Rattle.ua_types.specs.contracts.node_id.NodeIdOrd.TheImpl.Laws.{matches_eq-law}
 use Rattle.ua_types.proofs.SameIds.{same_id_true, same_id_itself}
-use Rattle.ua_values.specs.declared.data_value.DataValue.{DataValue}
+use Rattle.ua_types.specs.declared.data_value.DataValue.{DataValue}
 use Rattle.server_messages.specs.Kept.{Kept, Past, is_same, is_at_time, put_at, dropped_at, past_with, with_stored, with_all_stored, AreAlike}
 use Rattle.server_messages.specs.declared.stored.Stored.{Stored}
 use Rattle.sqlite.specs.declared.types.Value.TheVariants.{Int}

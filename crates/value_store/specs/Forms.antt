@@ -2,12 +2,12 @@
 use Rattle.std.specs.Prelude.{◌≡◌, ◌==◌, ◌^◌, ℕ, nat_lt, ℤ, pos, negsuc, Bool, true, false, if◌then◌else◌, List, [], ◌∷◌, Option, Some, None, option_map, slice_index_or, Result, Ok, Err}
 use Rattle.std.specs.Option.{option_and_then}
 use Rattle.ua_types.specs.declared.moment.Moment.{Moment}
-use Rattle.ua_values.specs.declared.content.Content.{Content}
-use Rattle.ua_values.specs.declared.content.Content.TheVariants.{Scalar as Single, Array, Matrix}
-use Rattle.ua_values.specs.declared.variant.Variant.{Variant}
-use Rattle.ua_values.specs.declared.variant.Variant.TheVariants as variants
-use Rattle.ua_values.specs.declared.data_value.DataValue.{DataValue}
-use Rattle.ua_values.specs.Variants.{type_number}
+use Rattle.ua_types.specs.declared.content.Content.{Content}
+use Rattle.ua_types.specs.declared.content.Content.TheVariants.{Scalar as Single, Array, Matrix}
+use Rattle.ua_types.specs.declared.variant.Variant.{Variant}
+use Rattle.ua_types.specs.declared.variant.Variant.TheVariants as variants
+use Rattle.ua_types.specs.declared.data_value.DataValue.{DataValue}
+use Rattle.ua_types.specs.Variants.{type_number}
 use Rattle.ua_binary.specs.declared.fault.TakeFault.{TakeFault}
 use Rattle.ua_binary.specs.Variants.{variant_reading}
 use Rattle.sqlite.specs.declared.types.Value.{Value}

@@ -4,7 +4,7 @@ use Rattle.std.specs.Option.{option_and_then}
 use Rattle.ua_types.specs.IdTexts.{id_text, id_of}
 use Rattle.ua_types.specs.declared.id_texts.IdFault.{IdFault}
 use Rattle.ua_types.specs.declared.node_id.NodeId.{NodeId}
-use Rattle.ua_values.specs.declared.data_value.DataValue.{DataValue}
+use Rattle.ua_types.specs.declared.data_value.DataValue.{DataValue}
 use Rattle.server_messages.specs.Kept.{Kept, Past, is_same, with_all_stored, AreAlike}
 use Rattle.server_messages.specs.declared.stored.Stored.{Stored}
 use Rattle.sqlite.specs.State.{State, HasCleanDisk}

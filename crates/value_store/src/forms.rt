@@ -8,8 +8,8 @@
 ghost use Rattle.std.specs.Prelude.{◌≡◌, ◌≢◌, ◌<◌, ◌^◌, length, pos, slice_index_or, string_bytes, IfOk, IfErr, IfSome, OnOk, IsTrue, false};
 ghost use Rattle.ua_types.specs.IdTexts.{id_text, id_of, IsNamed};
 ghost use Rattle.ua_binary.specs.Variants.{variant_reading};
-ghost use Rattle.ua_values.specs.Variants.{type_number};
-ghost use Rattle.ua_values.specs.declared.variant.Variant.TheVariants.{String as StringVariant};
+ghost use Rattle.ua_types.specs.Variants.{type_number};
+ghost use Rattle.ua_types.specs.declared.variant.Variant.TheVariants.{String as StringVariant};
 ghost use Rattle.sqlite.specs.declared.types.Value.TheVariants.{Int};
 ghost use Rattle.sqlite.specs.Values.{or_null};
 ghost use Rattle.value_store.specs.Rows.{sql_of};
@@ -19,8 +19,9 @@ use crate::fault::Fault;
 use crate::rows::{Key, Scalar, StoredRow};
 use std::alloc::{AllocError, Global};
 use ua_binary::{Cursor, TakeFault, Wire};
-use ua_types::{IdFault, Identifier, Moment, NodeId, Status, Text, write_id};
-use ua_values::{Content, DataValue, Variant};
+use ua_types::{
+    Content, DataValue, IdFault, Identifier, Moment, NodeId, Status, Text, Variant, write_id,
+};
 
 fn is_single<T>(content: &Content<T>) -> bool
     ensures { result ≡ is_single_spec content.now }

@@ -6,13 +6,13 @@ use std::alloc::Global;
 use std::io;
 use std::io::Write;
 use ua_binary::{Cursor, Wire};
-use ua_channel::{ChunkHeader, OpeningHeader};
 use ua_messages::type_ids::*;
 use ua_messages::{ResponseHeader, message, message_id, structure};
 use ua_subscription_messages::{
     DataChangeNotification, NotificationMessage, PublishResponse, RepublishResponse,
     StatusChangeNotification,
 };
+use ua_transport::{ChunkHeader, OpeningHeader};
 use ua_types::{ExtensionObject, Status};
 
 // The result of a call, as the header of its response says it.

@@ -25,8 +25,7 @@ use ua_binary::{Cursor, TakeFault, Wire};
 use ua_item_queue::ItemQueue;
 use ua_space::{Node, Space, SpaceFault, Triple};
 use ua_state_table::{Action, RowId, TableEvent, Vars, actions_of, choose, reachable};
-use ua_types::{Array, Config, IdFault, Listed, NodeId, write_id};
-use ua_values::DataValue;
+use ua_types::{Array, Config, DataValue, IdFault, Listed, NodeId, write_id};
 
 /// As [`Listed::append`].
 pub fn listed_append<T: Drop>(list: &mut Listed<T>, other: Listed<T>) -> Result<(), AllocError>

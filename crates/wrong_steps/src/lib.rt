@@ -1,4 +1,4 @@
-//! Calls of public functions of `ua_channel`, `server_core`, and the crates that carry its bytes and tell its runs, each under the
+//! Calls of public functions of `ua_transport`, `server_core`, and the crates that carry its bytes and tell its runs, each under the
 //! clauses that its callers rely on. That the crate is proved says that the contracts below give these clauses; each edit in
 //! `must-fail` puts a wrong body in the place of a call, which the clauses have to refuse. Nothing calls these functions.
 #![tactic(auto)]
@@ -6,29 +6,27 @@
 ghost use Rattle.std.specs.Prelude.{◌≡◌, ◌++◌, Err, MatchResult, OnOk, string_bytes, true, false};
 ghost use Rattle.ua_types.specs.Refusals.{TakesOrRefuses};
 ghost use Rattle.ua_types.specs.declared.refusal.Refusal.TheVariants as refusal;
-ghost use Rattle.ua_channel.specs.Acceptance.{take_of};
-ghost use Rattle.ua_channel.specs.Messages.{brings_part};
+ghost use Rattle.ua_transport.specs.Acceptance.{take_of};
+ghost use Rattle.ua_transport.specs.Messages.{brings_part};
 ghost use Rattle.server_core.specs.World.{world_of};
 ghost use Rattle.server_core.specs.Stepping.{step_on, StepsTo, takes_no_memory_on};
 ghost use Rattle.server_core.specs.declared.out.StepFault.TheVariants as step_fault;
 ghost use Rattle.scenario_text.specs.Scenarios.{Means};
-ghost use Rattle.scenario_events.specs.Assembly.{events_of};
-ghost use Rattle.scenario_lines.specs.TraceText.{row_line};
+ghost use Rattle.scenario_run.specs.Assembly.{events_of};
+ghost use Rattle.scenario_run.specs.TraceText.{row_line};
 ghost use Rattle.stream_server.specs.Pumped.{scene, Done, Stopped};
 ghost use Rattle.socket_peers.specs.Peers.{owed_all};
 
-use scenario_events::assemble;
-use scenario_lines::append_line;
+use collections::ShortList;
+use scenario_run::{append_line, assemble};
 use scenario_text::AsmFault;
 use server_core::{Event, Fired, Listed, Out, Server, Step, StepFault};
-use short_lists::ShortList;
 use socket_peers::Peers;
 use std::alloc::{AllocError, Global};
 use std::io::{Read, Write};
 use stream_server::{Pump, PumpFault};
 use stream_taps::Tap;
-use ua_channel::{Channel, Taken};
-use ua_tcp::Frame;
+use ua_transport::{Channel, Frame, Taken};
 use ua_types::Refusal;
 
 /// As [`Channel::take`].

@@ -2,13 +2,12 @@
 
 use super::TWICE;
 use bytes::Bytes;
-use short_lists::ShortList;
+use collections::ShortList;
 use std::alloc::{AllocError, Global};
 use std::io;
 use std::io::Write;
-use ua_channel::{Channel, SendFault, Taken};
 use ua_messages::MessageBody;
-use ua_tcp::{Agreed, Fed, Frame, Framer, Limits};
+use ua_transport::{Agreed, Channel, Fed, Frame, Framer, Limits, SendFault, Taken};
 use ua_types::{ByteString, Refusal};
 
 // Two chunks of the request 2, of 26 bytes each, on channel 7.

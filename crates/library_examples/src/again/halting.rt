@@ -1,7 +1,7 @@
 //! Scenarios, and what is out of memory for good.
 
 use crate::benchmarks::{failed, server_of};
-use scenario_events::assemble;
+use scenario_run::assemble;
 use scenario_text::{AsmFault, Cause};
 use server_core::{Event, Server, StepFault};
 use server_messages::{Halt, Origin};

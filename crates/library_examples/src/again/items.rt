@@ -17,8 +17,7 @@ use ua_subscription_messages::{
     MonitoredItemCreateResult, MonitoredItemModifyRequestView, MonitoredItemModifyResult,
     MonitoredItemNotification, NotificationMessage, SubscriptionId,
 };
-use ua_types::{Moment, NodeId, Status};
-use ua_values::{Content, DataValue, Variant};
+use ua_types::{Content, DataValue, Moment, NodeId, Status, Variant};
 use ua_views::{ArrayView, View};
 
 // The subscription whose items they are.

@@ -6,8 +6,9 @@ use std::io::{self, Write};
 use std::time::Instant;
 use ua_binary::{Cursor, Wire};
 use ua_messages::{ReadValueId, ReadValueIdView};
-use ua_types::{Array, Moment, NodeId, QualifiedName, Status, Text};
-use ua_values::{Content, DataValue, Double, Variant};
+use ua_types::{
+    Array, Content, DataValue, Double, Moment, NodeId, QualifiedName, Status, Text, Variant,
+};
 use ua_views::{ArrayView, DataValueView, TextView, View};
 
 /// How many elements each list has.

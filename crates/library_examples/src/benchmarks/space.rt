@@ -11,8 +11,7 @@ use std::alloc::{AllocError, Global};
 use std::io::{self, Write};
 use std::time::Instant;
 use ua_space::{Node, NodeDetails, Part, Space, SpaceFault, Triple};
-use ua_types::{Config, Listed, LocalizedText, NodeId, QualifiedName, Text};
-use ua_values::DataValue;
+use ua_types::{Config, DataValue, Listed, LocalizedText, NodeId, QualifiedName, Text};
 
 // What a tenth has: the types of the comb, the steps of the ladder, its nodes and its references.
 const TYPES: u32 = 50_000;

@@ -2,8 +2,8 @@ use Rattle.std.proofs.Common.{◌≡◌, ◌<◌, ◌≤◌, true, false, length
 use Rattle.std.specs.Prelude.{is_err}
 use Rattle.std.proofs.KnownBytes.{Appends-kept}
 use Rattle.stream_taps.proofs.TapLemmas.{counted-le, counted-Rose}
-use Rattle.scenario_lines.specs.Held.{place}
-use Rattle.scenario_lines.proofs.HeldLemmas.{all_out, cut_at}
+use Rattle.scenario_run.specs.Held.{place}
+use Rattle.scenario_run.proofs.HeldLemmas.{all_out, cut_at}
 use Rattle.commands.specs.Said.{Says}
 use Rattle.commands.proofs.program.say.Goals as goal
 

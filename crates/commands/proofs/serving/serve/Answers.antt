@@ -1,7 +1,7 @@
 use Rattle.std.proofs.Common.{◌≡◌, ◌∙◌, ap, subst, sym}
 use Rattle.ua_types.specs.Configuration.{Configuration}
 use Rattle.socket_server.specs.Keeping.{keeping}
-use Rattle.scenario_lines.specs.Held.{place}
+use Rattle.scenario_run.specs.Held.{place}
 use Rattle.commands.specs.Serving.{ServesBy, idle_of}
 use Rattle.commands.proofs.ServeLemmas.{by_words, no_memory_by, served_from_store, served_without_store}
 use Rattle.commands.proofs.serving.serve.Goals as goal

@@ -1,11 +1,11 @@
 use Rattle.std.proofs.Common.{◌≡◌, false, is_some, refl, subst, sym}
 use Rattle.stream_taps.specs.Tapped.{Tapped}
 use Rattle.socket_server.specs.Keeping.{keeping}
-use Rattle.scenario_lines.specs.TraceText.{rows_text}
+use Rattle.scenario_run.specs.TraceText.{rows_text}
 use Rattle.socket_server.specs.Serving.{unknown, uncounted}
 use Rattle.socket_server.specs.Output.{no_output}
 use Rattle.socket_server.proofs.ServingLemmas.{ran, run_writer}
-use Rattle.scenario_lines.specs.Held.{place}
+use Rattle.scenario_run.specs.Held.{place}
 use Rattle.commands.specs.Serving.{ServesWith, text_of, output_at}
 use Rattle.commands.proofs.ServeLemmas.{served_with, served_without}
 use Rattle.commands.proofs.serving.serve_and_tell.Goals as goal

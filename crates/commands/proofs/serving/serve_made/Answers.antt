@@ -1,5 +1,5 @@
 use Rattle.std.proofs.Common.{◌≡◌, refl, subst}
-use Rattle.scenario_lines.specs.Held.{place}
+use Rattle.scenario_run.specs.Held.{place}
 use Rattle.commands.specs.Said.{MadeBy}
 use Rattle.commands.specs.Serving.{ServesBy}
 use Rattle.commands.proofs.MadeLemmas.{unmade}

@@ -1,7 +1,7 @@
 use Rattle.std.proofs.Common.{◌∙◌, List, ℕ, refl, subst, sym}
 use Rattle.socket_server.specs.Keeping.{keeping}
 use Rattle.socket_server.specs.declared.serve_fault.ServeFault.TheVariants as serve_fault
-use Rattle.scenario_lines.specs.Held.{place}
+use Rattle.scenario_run.specs.Held.{place}
 use Rattle.commands.specs.Said.{Says}
 use Rattle.commands.specs.Serving.{ServesOn, listening_line}
 use Rattle.commands.specs.declared.status.Status.{Status}

@@ -1,5 +1,5 @@
-use Rattle.scenario_lines.specs.Held.{place}
-use Rattle.scenario_lines.specs.TraceText.{rows_text}
+use Rattle.scenario_run.specs.Held.{place}
+use Rattle.scenario_run.specs.TraceText.{rows_text}
 use Rattle.commands.proofs.ServeLemmas.{lines_put, part_put}
 use Rattle.commands.proofs.watching.put_out.Goals as goal
 

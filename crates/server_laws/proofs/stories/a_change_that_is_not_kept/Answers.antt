@@ -1,5 +1,5 @@
 use Rattle.std.proofs.Common.{◌≡◌, ◌⊎◌, inl, inr, Option, Some, sym, subst, ◌∙◌}
-use Rattle.ua_values.specs.declared.data_value.DataValue.{DataValue}
+use Rattle.ua_types.specs.declared.data_value.DataValue.{DataValue}
 use Rattle.ua_space.specs.Values.{value_at}
 use Rattle.server_messages.specs.Kept.{with_all_stored}
 use Rattle.ua_services.specs.ServicesState.{no_services_used}

@@ -1,5 +1,5 @@
 use Rattle.std.proofs.Common.{◌≡◌, List, [], ◌∷◌, ◌++◌, refl, subst}
-use Rattle.ua_values.specs.declared.data_value.DataValue.{DataValue}
+use Rattle.ua_types.specs.declared.data_value.DataValue.{DataValue}
 use Rattle.ua_item_queue.specs.Fates.{AccountEntry, GoesOn}
 use Rattle.ua_item_queue.specs.Fates.Fate.{Waits, WasSent}
 use Rattle.server_laws.specs.Fates.{account_after}

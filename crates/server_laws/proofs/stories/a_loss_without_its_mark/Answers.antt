@@ -1,5 +1,5 @@
 use Rattle.std.proofs.Common.{◌≡◌, true, false, List, [], ◌∷◌, refl, subst}
-use Rattle.ua_values.specs.declared.data_value.DataValue.{DataValue}
+use Rattle.ua_types.specs.declared.data_value.DataValue.{DataValue}
 use Rattle.ua_item_queue.specs.Fates.{AccountEntry, LossesAreMarked}
 use Rattle.server_laws.specs.Stories.{lost, waiting}
 use Rattle.server_laws.proofs.stories.a_loss_without_its_mark.Goals as goal

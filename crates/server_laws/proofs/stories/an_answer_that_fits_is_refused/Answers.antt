@@ -1,8 +1,8 @@
 use Rattle.std.proofs.Common.{◌≡◌, inl, inr, ℕ, List, [], ◌∷◌, Some, Result, Ok, Err, subst, ap, ◌∙◌}
 use Rattle.std.specs.List.{AllByRecursion}
-use Rattle.ua_channel.specs.Cutting.{send_of}
-use Rattle.ua_channel.specs.declared.send_fault.SendFault.{SendFault}
-use Rattle.ua_channel.specs.declared.send_fault.SendFault.TheVariants.{TooLarge}
+use Rattle.ua_transport.specs.Cutting.{send_of}
+use Rattle.ua_transport.specs.declared.send_fault.SendFault.{SendFault}
+use Rattle.ua_transport.specs.declared.send_fault.SendFault.TheVariants.{TooLarge}
 use Rattle.server_connections.specs.Reactions.{sends}
 use Rattle.server_laws.specs.Postings.{Posting, IsSentBy, IsSent}
 use Rattle.server_laws.proofs.stories.an_answer_that_fits_is_refused.Goals as goal

@@ -2,7 +2,7 @@ use Rattle.std.proofs.Common.{◌≡◌, inl, inr, ℕ, List, [], ◌∷◌, Opt
 use Rattle.std.specs.List.{AllByRecursion}
 use Rattle.ua_types.specs.declared.status.TheConstants.Status as status
 use Rattle.ua_messages.specs.ServiceFaults.{fault_body}
-use Rattle.ua_channel.specs.ChannelStates.{ChannelState}
+use Rattle.ua_transport.specs.ChannelStates.{ChannelState}
 use Rattle.server_connections.specs.Reactions.{sends}
 use Rattle.server_laws.specs.Postings.{Posting, GoesBy, IsSentBy, IsSent}
 use Rattle.server_laws.proofs.stories.an_answer_that_is_swallowed.Goals as goal

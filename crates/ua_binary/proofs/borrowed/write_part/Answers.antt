@@ -1,6 +1,6 @@
 use Rattle.std.proofs.Common.{ap, refl, arith}
-use Rattle.ua_values.specs.Parts.{part_of}
-use Rattle.ua_values.specs.declared.variant.Variant.TheVariants as variants
+use Rattle.ua_types.specs.Parts.{part_of}
+use Rattle.ua_types.specs.declared.variant.Variant.TheVariants as variants
 use Rattle.ua_binary.specs.Variants.{typed_reading, variant_encoding}
 use Rattle.ua_binary.proofs.Typed.{typed_again}
 use Rattle.ua_binary.proofs.borrowed.write_part.Goals as goal

@@ -1,5 +1,5 @@
 use Rattle.std.proofs.Common.{◌≡◌, ℕ, ap, rules, sym, ◌∙◌}
-use Rattle.number_slots.proofs.NumberMaps.{lent_found}
+use Rattle.collections.proofs.NumberMaps.{lent_found}
 use Rattle.ua_monitored_items.specs.Item.{gave, waiting_in}
 use Rattle.ua_monitored_items.specs.ItemTables.{item_at}
 use Rattle.ua_monitored_items.specs.Items.{nat_least, taken_from, nothing_taken}

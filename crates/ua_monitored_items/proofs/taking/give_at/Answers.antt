@@ -1,7 +1,7 @@
 use Rattle.std.proofs.Common.{◌≡◌, ℕ, Option, Some, refl, ap, subst, sym, ◌∙◌}
 use Rattle.std.specs.Borrow.{MutBor}
 use Rattle.std.specs.Option.{option_copied_mut}
-use Rattle.number_slots.proofs.NumberMaps.{lent_found}
+use Rattle.collections.proofs.NumberMaps.{lent_found}
 use Rattle.ua_monitored_items.specs.Counts.{counts_with, recount_by, AreCountsBy}
 use Rattle.ua_monitored_items.specs.Item.{gave, waiting_in}
 use Rattle.ua_monitored_items.specs.ItemTables.{NumberedItems, item_at}

@@ -1,7 +1,7 @@
 use Rattle.std.proofs.Common.{◌≡◌, ◌∙◌, ◌++◌, Ok, length, arith, ap, refl, subst}
 use Rattle.std.specs.List.{flat_map}
 use Rattle.std.proofs.lemmas.Result.{err_from_is_err_and}
-use Rattle.number_slots.proofs.NumberMaps.{lent_found, given_back}
+use Rattle.collections.proofs.NumberMaps.{lent_found, given_back}
 use Rattle.ua_messages.specs.Diagnostics.{diagnostic_infos_encoding}
 use Rattle.ua_session.specs.Points.{GivesInRange}
 use Rattle.ua_session.specs.Sessions.{points_of, with_points}

@@ -2,7 +2,7 @@ use Rattle.std.proofs.Common.{◌≡◌, ◌≢◌, false, cond, sym, ap, subst,
 use Rattle.std.specs.BTreeMap.{is_at}
 use Rattle.ua_subscriptions.specs.DueLists.{due_at, due_cmp, has_due, has_moved}
 use Rattle.ua_subscriptions.specs.Tables.{subscription_at}
-use Rattle.number_slots.proofs.NumberMaps.{same_number}
+use Rattle.collections.proofs.NumberMaps.{same_number}
 use Rattle.ua_subscriptions.proofs.Listings.{HasMoment, had_moment, moved, stayed, swapped}
 use Rattle.ua_subscriptions.proofs.listing.insert_at.Goals as goal
 

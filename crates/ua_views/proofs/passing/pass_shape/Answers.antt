@@ -1,7 +1,7 @@
 use Rattle.std.proofs.Common.{◌≡◌, ℕ, List, [], Option, false, eqb, ap, sym, ◌∙◌, arith}
 use Rattle.std.specs.Int.{w32}
 use Rattle.std.proofs.lemmas.Result.{err_from_is_err_and}
-use Rattle.ua_values.specs.Matrices.{is_shape}
+use Rattle.ua_types.specs.Matrices.{is_shape}
 use Rattle.ua_binary.specs.Numbers.{number_reading}
 use Rattle.ua_binary.specs.Arrays.{elements_reading}
 use Rattle.ua_views.proofs.Elements.{seen, walks_on, walk_ends, walk_is_done, was_seen, was_faulty}

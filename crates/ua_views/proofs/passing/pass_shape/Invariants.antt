@@ -1,6 +1,6 @@
 use Rattle.std.proofs.Common.{◌≡◌, ◌-◌}
 use Rattle.std.specs.Int.{w32}
-use Rattle.ua_values.specs.Matrices.{is_shape}
+use Rattle.ua_types.specs.Matrices.{is_shape}
 use Rattle.ua_binary.specs.Numbers.{number_reading}
 use Rattle.ua_binary.specs.Arrays.{elements_reading}
 use Rattle.ua_views.proofs.Elements.{seen}

@@ -1,6 +1,6 @@
 use Rattle.std.proofs.Common.{◌∙◌, ap, sym, is_some}
 use Rattle.std.specs.FinMap as map
-use Rattle.number_slots.proofs.NumberMaps.{get_is}
+use Rattle.collections.proofs.NumberMaps.{get_is}
 use Rattle.scenario_text.proofs.open_connections.OpenConnections.contains.Goals as goal
 
 pub returns : goal.returns

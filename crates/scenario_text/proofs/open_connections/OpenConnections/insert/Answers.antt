@@ -1,6 +1,6 @@
 use Rattle.std.proofs.Common.{◌∙◌, ap}
 use Rattle.std.specs.FinMap as map
-use Rattle.number_slots.proofs.NumberMaps.{one_given}
+use Rattle.collections.proofs.NumberMaps.{one_given}
 use Rattle.scenario_text.proofs.open_connections.OpenConnections.insert.Goals as goal
 
 pub returns-clause-ok : goal.returns-clause-ok

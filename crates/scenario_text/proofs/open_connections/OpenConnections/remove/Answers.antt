@@ -1,6 +1,6 @@
 use Rattle.std.proofs.Common.{◌∙◌, ap}
 use Rattle.std.specs.FinMap as map
-use Rattle.number_slots.proofs.NumberMaps.{one_gone}
+use Rattle.collections.proofs.NumberMaps.{one_gone}
 use Rattle.scenario_text.proofs.open_connections.OpenConnections.remove.Goals as goal
 
 pub returns : goal.returns

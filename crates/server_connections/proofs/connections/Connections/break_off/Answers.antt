@@ -1,4 +1,4 @@
-use Rattle.number_slots.proofs.NumberMaps.{lent_found, given_back}
+use Rattle.collections.proofs.NumberMaps.{lent_found, given_back}
 use Rattle.server_connections.proofs.LentLemmas.{broken_back}
 use Rattle.server_connections.proofs.connections.Connections.break_off.Goals as goal
 

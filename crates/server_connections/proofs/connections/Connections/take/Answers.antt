@@ -1,5 +1,5 @@
 use Rattle.std.proofs.lemmas.Result.{IfOk-weaker}
-use Rattle.number_slots.proofs.NumberMaps.{lent_found, given_back}
+use Rattle.collections.proofs.NumberMaps.{lent_found, given_back}
 use Rattle.server_connections.proofs.LentLemmas.{taken_back}
 use Rattle.server_connections.proofs.connections.Connections.take.Goals as goal
 

@@ -1,7 +1,7 @@
 use Rattle.std.proofs.Common.{◌∙◌, ap, sym, subst, Bool, Option, List}
-use Rattle.ua_tcp.specs.declared.frame.Frame.{Frame}
-use Rattle.ua_tcp.specs.Pieces.{all_handled, refused_if}
-use Rattle.ua_tcp.specs.declared.frame.FrameFault.{FrameFault}
+use Rattle.ua_transport.specs.declared.frame.Frame.{Frame}
+use Rattle.ua_transport.specs.Pieces.{all_handled, refused_if}
+use Rattle.ua_transport.specs.declared.frame.FrameFault.{FrameFault}
 use Rattle.server_core.specs.Handling.{Shows, handled, broken, doing_after}
 use Rattle.server_core.proofs.EffectLemmas.{shows_next}
 use Rattle.server_core.proofs.parts.Core.finish.Goals as goal

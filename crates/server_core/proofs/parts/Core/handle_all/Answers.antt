@@ -1,7 +1,7 @@
 use Rattle.std.proofs.Common.{◌≡◌, ◌∙◌, ap, sym, subst, true, Bool, ℕ, List, ◌∷◌, drop, ◌+◌, ◌<◌, length, get_or}
 use Rattle.std.proofs.lemmas.List.{drop_more}
-use Rattle.ua_tcp.specs.Pieces.{Done, and_then, all_handled}
-use Rattle.ua_tcp.specs.declared.frame.Frame.{Frame}
+use Rattle.ua_transport.specs.Pieces.{Done, and_then, all_handled}
+use Rattle.ua_transport.specs.declared.frame.Frame.{Frame}
 use Rattle.server_core.specs.Effects.{Effect, are_spent}
 use Rattle.server_core.specs.Handling.{handled, doing_after, Shows}
 use Rattle.server_core.specs.World.{Core}

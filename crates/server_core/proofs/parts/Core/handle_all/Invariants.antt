@@ -1,5 +1,5 @@
 use Rattle.std.proofs.Common.{◌≡◌, true, drop}
-use Rattle.ua_tcp.specs.Pieces.{all_handled}
+use Rattle.ua_transport.specs.Pieces.{all_handled}
 use Rattle.server_core.specs.Effects.{are_spent}
 use Rattle.server_core.specs.Handling.{handled, doing_after}
 use Rattle.server_core.proofs.parts.Core.handle_all.Given as goal

@@ -1,6 +1,6 @@
 use Rattle.std.proofs.Common.{◌∙◌, ap, sym, if◌then◌else◌}
 use Rattle.std.specs.FinMap.{remove}
-use Rattle.number_slots.proofs.NumberMaps.{lent_found, given_back}
+use Rattle.collections.proofs.NumberMaps.{lent_found, given_back}
 use Rattle.std.proofs.lemmas.Result.{err_from_is_err_and}
 use Rattle.server_core.proofs.HandlingLemmas.{piece_in_place, piece_halts}
 use Rattle.server_core.proofs.world.World.feed.Goals as goal

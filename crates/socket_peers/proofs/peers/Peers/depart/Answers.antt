@@ -1,6 +1,6 @@
 use Rattle.std.proofs.Common.{rules, ◌≡◌, true, false}
 use Rattle.socket_peers.specs.Peer.{departs}
-use Rattle.number_slots.proofs.NumberMaps.{lent_found, given_back}
+use Rattle.collections.proofs.NumberMaps.{lent_found, given_back}
 use Rattle.socket_peers.proofs.MapLemmas.{departed_back, kept_back}
 use Rattle.socket_peers.proofs.peers.Peers.depart.Goals as goal
 

@@ -1,5 +1,5 @@
 use Rattle.std.proofs.Common.{rules}
-use Rattle.number_slots.proofs.NumberMaps.{lent_found, given_back}
+use Rattle.collections.proofs.NumberMaps.{lent_found, given_back}
 use Rattle.socket_peers.proofs.MapLemmas.{both_ok, flush_at}
 use Rattle.socket_peers.proofs.peers.Peers.flush.Goals as goal
 

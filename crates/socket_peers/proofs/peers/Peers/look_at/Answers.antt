@@ -1,6 +1,6 @@
 use Rattle.std.proofs.Common.{subst}
 use Rattle.socket_peers.specs.Peer.{Flushes}
-use Rattle.number_slots.proofs.NumberMaps.{lent_found, given_back}
+use Rattle.collections.proofs.NumberMaps.{lent_found, given_back}
 use Rattle.socket_peers.proofs.MapLemmas.{both_ok, look_at}
 use Rattle.socket_peers.proofs.peers.Peers.look_at.Goals as goal
 

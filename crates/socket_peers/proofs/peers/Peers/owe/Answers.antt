@@ -1,7 +1,7 @@
 use Rattle.std.proofs.Common.{rules, ◌≡◌, [], ◌∷◌, ◌++◌, ◌∙◌, ap, sym}
 use Rattle.socket_peers.specs.Peer.{owing, closing}
 use Rattle.socket_peers.specs.Peers.{owed_out}
-use Rattle.number_slots.proofs.NumberMaps.{lent_found, given_back}
+use Rattle.collections.proofs.NumberMaps.{lent_found, given_back}
 use Rattle.socket_peers.proofs.MapLemmas.{touched_back}
 use Rattle.socket_peers.proofs.peers.Peers.owe.Goals as goal
 

@@ -1,5 +1,5 @@
 use Rattle.std.proofs.Common.{◌≡◌, IfOk, OnErr, length, rules, subst}
-use Rattle.number_slots.proofs.NumberMaps.{lent_found, given_back}
+use Rattle.collections.proofs.NumberMaps.{lent_found, given_back}
 use Rattle.socket_peers.specs.Peer.{Reads, Loses}
 use Rattle.socket_peers.proofs.MapLemmas.{reads_at, loses_at}
 use Rattle.socket_peers.proofs.peers.Peers.read.Goals as goal

@@ -1,4 +1,4 @@
-use Rattle.number_slots.proofs.NumberMaps.{lent_found, given_back}
+use Rattle.collections.proofs.NumberMaps.{lent_found, given_back}
 use Rattle.socket_peers.proofs.MapLemmas.{both_ok, reported_back}
 use Rattle.socket_peers.proofs.peers.Peers.report.Goals as goal
 

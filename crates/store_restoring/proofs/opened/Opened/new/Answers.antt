@@ -1,5 +1,5 @@
 use Rattle.std.proofs.Common.{List, [], ap, ◌∙◌}
-use Rattle.ua_values.specs.declared.data_value.DataValue.{DataValue}
+use Rattle.ua_types.specs.declared.data_value.DataValue.{DataValue}
 use Rattle.store_restoring.specs.Restored.{past_of}
 use Rattle.store_restoring.proofs.Ids.{keys_stay, put_twice}
 use Rattle.store_restoring.proofs.opened.Opened.new.Goals as goal

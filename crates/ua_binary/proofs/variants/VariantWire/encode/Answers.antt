@@ -1,5 +1,5 @@
 use Rattle.std.proofs.Common.{refl, arith}
-use Rattle.ua_values.specs.declared.variant.Variant.TheVariants as variants
+use Rattle.ua_types.specs.declared.variant.Variant.TheVariants as variants
 use Rattle.ua_binary.specs.Variants.{typed_reading, variant_encoding}
 use Rattle.ua_binary.proofs.Typed.{typed_again}
 use Rattle.ua_binary.proofs.variants.VariantWire.encode.Goals as goal

@@ -1,6 +1,6 @@
 use Rattle.std.proofs.Common.{◌∙◌, List, option_map, slice_get, ap, sym}
 use Rattle.std.proofs.lemmas.Result.{on_ok_weaker}
-use Rattle.ua_values.specs.declared.data_value.DataValue.{DataValue}
+use Rattle.ua_types.specs.declared.data_value.DataValue.{DataValue}
 use Rattle.ua_space.specs.Nodes.{Nodes}
 use Rattle.ua_history.specs.Histories.{with_all}
 use Rattle.ua_history.proofs.Begun.{nobody_begins, one_begins}

@@ -4,7 +4,7 @@ use Rattle.std.proofs.lemmas.List.{length-map}
 use Rattle.ua_binary.specs.DataValues.{data_value_reading, data_value_encoding}
 use Rattle.ua_binary.specs.Reading.{IsReadAgain}
 use Rattle.ua_binary.proofs.Elements.{array_again}
-use Rattle.ua_values.specs.declared.data_value.DataValue.{DataValue}
+use Rattle.ua_types.specs.declared.data_value.DataValue.{DataValue}
 use Rattle.ua_service_messages.specs.History.{history_data_reading, history_data_encoding}
 use Rattle.ua_services.specs.HistoryResults.{all_shown}
 use Rattle.ua_services.proofs.history_results.BorrowedHistoryDataWritten.write.Goals as goal

@@ -1,6 +1,6 @@
 use Rattle.std.proofs.Common.{◌∙◌, ap, sym}
 use Rattle.std.specs.FinMap as map
-use Rattle.number_slots.proofs.NumberMaps.{get_is}
+use Rattle.collections.proofs.NumberMaps.{get_is}
 use Rattle.ua_session.proofs.points.Points.get.Goals as goal
 
 pub returns : goal.returns

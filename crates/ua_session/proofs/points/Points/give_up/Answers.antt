@@ -1,6 +1,6 @@
 use Rattle.std.proofs.Common.{◌∙◌, ap, sym}
 use Rattle.std.specs.FinMap as map
-use Rattle.number_slots.proofs.NumberMaps.{get_is, one_gone}
+use Rattle.collections.proofs.NumberMaps.{get_is, one_gone}
 use Rattle.ua_session.specs.Points.{PointsState, without_point}
 use Rattle.ua_session.proofs.points.Points.give_up.Goals as goal
 

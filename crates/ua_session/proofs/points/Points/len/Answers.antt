@@ -1,6 +1,6 @@
 use Rattle.std.proofs.Common.{◌∙◌, ap}
 use Rattle.std.specs.FinMap as map
-use Rattle.number_slots.proofs.NumberMaps.{count_is}
+use Rattle.collections.proofs.NumberMaps.{count_is}
 use Rattle.ua_session.proofs.points.Points.len.Goals as goal
 
 pub returns : goal.returns

@@ -1,6 +1,6 @@
 use Rattle.std.proofs.Common.{◌∙◌, ◌+◌, ap, sym, arith, Ok}
 use Rattle.std.specs.FinMap as map
-use Rattle.number_slots.proofs.NumberMaps.{one_given}
+use Rattle.collections.proofs.NumberMaps.{one_given}
 use Rattle.ua_types.specs.Answers.{step}
 use Rattle.ua_session.specs.Points.{PointsState, put_of}
 use Rattle.ua_session.proofs.points.Points.put.Goals as goal

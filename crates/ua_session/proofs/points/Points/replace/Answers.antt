@@ -1,6 +1,6 @@
 use Rattle.std.proofs.Common.{◌≡◌, ◌∙◌, ap, sym, subst, false, Ok}
 use Rattle.std.specs.FinMap as map
-use Rattle.number_slots.proofs.NumberMaps.{one_gone}
+use Rattle.collections.proofs.NumberMaps.{one_gone}
 use Rattle.ua_types.specs.Answers.{step}
 use Rattle.ua_session.specs.Points.{PointsState, is_overspent, without_point, replace_of}
 use Rattle.ua_session.proofs.points.Points.replace.Goals as goal

@@ -1,6 +1,6 @@
 use Rattle.std.proofs.Common.{◌∙◌, ap, sym, is_some}
 use Rattle.std.specs.FinMap as map
-use Rattle.number_slots.proofs.NumberMaps.{get_is}
+use Rattle.collections.proofs.NumberMaps.{get_is}
 use Rattle.ua_session.proofs.session_points.SessionPoints.contains.Goals as goal
 
 pub returns : goal.returns

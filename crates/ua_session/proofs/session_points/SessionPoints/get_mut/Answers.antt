@@ -1,6 +1,6 @@
 use Rattle.std.proofs.Common.{◌∙◌, refl, ap, sym}
 use Rattle.std.specs.FinMap as map
-use Rattle.number_slots.proofs.NumberMaps.{get_is, one_lent}
+use Rattle.collections.proofs.NumberMaps.{get_is, one_lent}
 use Rattle.ua_session.proofs.session_points.SessionPoints.get_mut.Goals as goal
 
 pub returns : goal.returns

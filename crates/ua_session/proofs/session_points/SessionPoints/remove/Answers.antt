@@ -1,6 +1,6 @@
 use Rattle.std.proofs.Common.{◌∙◌, ap}
 use Rattle.std.specs.FinMap as map
-use Rattle.number_slots.proofs.NumberMaps.{one_gone}
+use Rattle.collections.proofs.NumberMaps.{one_gone}
 use Rattle.ua_session.proofs.session_points.SessionPoints.remove.Goals as goal
 
 pub returns : goal.returns

@@ -1,5 +1,5 @@
 use Rattle.std.proofs.Common.{ap, sym, ◌∙◌}
-use Rattle.ua_values.specs.Shapes.{shape_of}
+use Rattle.ua_types.specs.Shapes.{shape_of}
 use Rattle.ua_binary.specs.Numbers.{byte_reading}
 use Rattle.ua_views.proofs.VariantBytes.{shape_is_announced}
 use Rattle.ua_views.proofs.variants.VariantView.first.Goals as goal

@@ -1,0 +1,12 @@
+pub mod SlotLemmas
+pub mod NumberMaps
+pub mod Times
+pub mod Entries
+pub mod Lists
+pub mod Outside
+pub mod Segmented
+pub mod Changes
+pub mod Splitting
+pub mod Ends
+pub mod Counting
+pub mod Reading

@@ -1,5 +1,0 @@
-use Rattle.scenario_events.proofs.CountLemmas.{assembled_counted, nothing_counted}
-use Rattle.scenario_events.proofs.laws.headers_are_writable.Goals as goal
-
-pub returns : goal.returns
-returns c = record { first = nothing_counted; next = assembled_counted }

@@ -1,5 +1,0 @@
-use Rattle.scenario_events.proofs.Pieces.{whole_pieces}
-use Rattle.scenario_events.proofs.laws.pieces_are_whole.Goals as goal
-
-pub returns : goal.returns
-returns c = whole_pieces

@@ -1,9 +1,0 @@
-pub mod Pieces
-pub mod Runs
-pub mod Sendings
-pub mod Members
-pub mod Assembly
-pub mod Meaning
-pub mod Groups
-pub mod ReadBodies
-pub mod Reading

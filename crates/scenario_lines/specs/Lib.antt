@@ -1,4 +1,0 @@
-pub mod Texts
-pub mod TraceText
-pub mod Held
-pub mod Runs

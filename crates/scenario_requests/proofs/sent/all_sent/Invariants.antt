@@ -1,6 +1,0 @@
-use Rattle.std.proofs.Common.{◌≡◌, ◌++◌, map}
-use Rattle.scenario_requests.proofs.sent.all_sent.Given as goal
-
--- what was sent so far and what is left are the whole
-abbrev pub invariant-loop-entry : goal.invariant-loop-entry
-invariant-loop-entry g l = l.items.items ++ map g.S.Sent.form l.entry-iterator.rest.items ≡ map g.S.Sent.form l.fn.entries.items

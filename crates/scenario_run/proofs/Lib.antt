@@ -1,0 +1,12 @@
+pub mod Pieces
+pub mod RequestRunLemmas
+pub mod EventLemmas
+pub mod AssemblyLemmas
+pub mod ReadLemmas
+pub mod FrameLemmas
+pub mod CountLemmas
+pub mod SizeLemmas
+pub mod HappeningLemmas
+pub mod RefusalLemmas
+pub mod HeldLemmas
+pub mod RunLemmas

@@ -1,0 +1,13 @@
+pub mod Pieces
+pub mod RequestRuns
+pub mod Sendings
+pub mod Members
+pub mod Assembly
+pub mod Meaning
+pub mod Groups
+pub mod ReadBodies
+pub mod Reading
+pub mod Texts
+pub mod TraceText
+pub mod Held
+pub mod Runs

@@ -1,4 +1,0 @@
-pub mod Laid
-pub mod Places
-pub mod Parts
-pub mod Runs

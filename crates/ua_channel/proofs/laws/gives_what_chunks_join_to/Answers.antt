@@ -1,5 +1,0 @@
-use Rattle.ua_channel.proofs.JoiningLemmas.{joined_all}
-use Rattle.ua_channel.proofs.laws.gives_what_chunks_join_to.Goals as goal
-
-pub returns : goal.returns
-returns c = joined_all

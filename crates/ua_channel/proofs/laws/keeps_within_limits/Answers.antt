@@ -1,5 +1,0 @@
-use Rattle.ua_channel.proofs.LimitLemmas.{kept_within}
-use Rattle.ua_channel.proofs.laws.keeps_within_limits.Goals as goal
-
-pub returns : goal.returns
-returns c = kept_within

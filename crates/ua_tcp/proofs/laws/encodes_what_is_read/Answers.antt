@@ -1,5 +1,0 @@
-use Rattle.ua_tcp.proofs.DecodedLemmas.{read_split}
-use Rattle.ua_tcp.proofs.laws.encodes_what_is_read.Goals as goal
-
-pub returns : goal.returns
-returns c = read_split

@@ -1,7 +1,0 @@
-pub mod Header
-pub mod Frames
-pub mod Feeding
-pub mod Encoding
-pub mod Pieces
-pub mod Hellos
-pub mod Agreements

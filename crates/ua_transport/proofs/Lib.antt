@@ -1,0 +1,11 @@
+pub mod FramesLemmas
+pub mod FeedingLemmas
+pub mod PiecesLemmas
+pub mod EncodedLemmas
+pub mod DecodedLemmas
+pub mod HeaderLemmas
+pub mod CuttingLemmas
+pub mod JoiningLemmas
+pub mod ReadAgainLemmas
+pub mod LimitLemmas
+pub mod FittingLemmas

@@ -1,0 +1,15 @@
+pub mod Header
+pub mod Frames
+pub mod Feeding
+pub mod Encoding
+pub mod Pieces
+pub mod Hellos
+pub mod Agreements
+pub mod Headers
+pub mod SequenceNumbers
+pub mod Messages
+pub mod ChannelStates
+pub mod Openings
+pub mod Acceptance
+pub mod Cutting
+pub mod Chunks

@@ -1,3 +1,0 @@
-mod Products
-pub mod Replacing
-pub mod Parting
