@@ -229,9 +229,9 @@ fn run_until<R: Files + Clock + Wait, K: Keeper, W: Observer>(
     match options.stop_file {
         Some(path) => {
             let mut until = StopFile::new(path, options.turns);
-            serve.run(rt, alloc, server, observer, &mut until)
+            serve.run(rt, server, observer, &mut until)
         }
-        None => serve.run(rt, alloc, server, observer, &mut Turns(options.turns)),
+        None => serve.run(rt, server, observer, &mut Turns(options.turns)),
     }
 }
 

@@ -71,7 +71,7 @@ fn is_told_the_end(read: &[u8]) -> bool {
 fn takes_turns<R: Clock + Wait>(rt: &R, alloc: Global, serve: &mut Serve) -> Result<bool, Fail> {
     let mut server = unkept_server(alloc)?;
     let is_done = serve
-        .run(rt, alloc, &mut server, &mut Unobserved, &mut Turns(8))
+        .run(rt, &mut server, &mut Unobserved, &mut Turns(8))
         .is_ok();
     Ok(is_done && serve.len() == 1)
 }

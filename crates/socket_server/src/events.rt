@@ -16,7 +16,6 @@ use bytes::Bytes;
 use server_core::{Event, Out};
 use server_messages::Keeper;
 use socket_peers::{End, Peers, Readiness, Socket};
-use std::alloc::Global;
 use std::net::SocketAddr;
 
 // The most sockets that are read from before what is owed is written.
@@ -60,7 +59,6 @@ fn closes(outs: &[Out]) -> bool {
 /// Hands an event to the server, owes the sockets what it sends, and tells that and which rows fired. Says whether a connection is
 /// to be closed.
 pub(crate) fn hand_in<S: Socket + Drop, K: Keeper, W: Observer>(
-    alloc: Global,
     peers: &mut Peers<S>,
     events: &mut u64,
     server: &mut KeptServer<K>,
@@ -74,7 +72,7 @@ pub(crate) fn hand_in<S: Socket + Drop, K: Keeper, W: Observer>(
     let Some(number) = events.checked_add(1) else {
         return Err(ServeFault::Memory);
     };
-    let Answer { outs, rows } = match server.step(alloc, event) {
+    let Answer { outs, rows } = match server.step(event) {
         Ok(answer) => answer,
         Err(fault) => return Err(fault),
     };
@@ -92,7 +90,6 @@ pub(crate) fn hand_in<S: Socket + Drop, K: Keeper, W: Observer>(
 
 // Tells the server, and the observer, of a new connection.
 fn hand_in_opening<S: Socket + Drop, K: Keeper, W: Observer>(
-    alloc: Global,
     peers: &mut Peers<S>,
     events: &mut u64,
     server: &mut KeptServer<K>,
@@ -109,7 +106,7 @@ fn hand_in_opening<S: Socket + Drop, K: Keeper, W: Observer>(
         conn: arrival.number,
         key,
     };
-    match hand_in(alloc, peers, events, server, observer, &opened) {
+    match hand_in(peers, events, server, observer, &opened) {
         Ok(true) => {
             observer.refused(arrival.number, arrival.address);
             Ok(())
@@ -124,7 +121,6 @@ fn hand_in_opening<S: Socket + Drop, K: Keeper, W: Observer>(
 
 // Takes in a socket that has connected: it gets the next number, and the server is told.
 fn admit<S: Socket + Drop, K: Keeper, W: Observer>(
-    alloc: Global,
     peers: &mut Peers<S>,
     events: &mut u64,
     server: &mut KeptServer<K>,
@@ -140,17 +136,16 @@ fn admit<S: Socket + Drop, K: Keeper, W: Observer>(
         MatchResult result (λ _. Does S.remaining S.contents S.calls W.text (Connects arrival.address_bits arrival.key) old new) (Stops S.remaining S.contents S.calls W.text old new) }
 {
     if peers
-        .admit(alloc, arrival.number, arrival.address_bits, stream)
+        .admit(server.alloc, arrival.number, arrival.address_bits, stream)
         .is_err()
     {
         return Err(ServeFault::Memory);
     }
-    hand_in_opening(alloc, peers, events, server, observer, arrival)
+    hand_in_opening(peers, events, server, observer, arrival)
 }
 
 // Hands in a piece that was read from a socket.
 fn hand_in_piece<S: Socket + Drop, K: Keeper, W: Observer>(
-    alloc: Global,
     peers: &mut Peers<S>,
     events: &mut u64,
     server: &mut KeptServer<K>,
@@ -170,7 +165,7 @@ fn hand_in_piece<S: Socket + Drop, K: Keeper, W: Observer>(
         conn: number,
         bytes,
     };
-    match hand_in(alloc, peers, events, server, observer, &event) {
+    match hand_in(peers, events, server, observer, &event) {
         Ok(_) => Ok(()),
         Err(fault) => Err(fault),
     }
@@ -178,7 +173,6 @@ fn hand_in_piece<S: Socket + Drop, K: Keeper, W: Observer>(
 
 // Reads once from a socket, and hands a piece that came to the server. Says whether there may be more to read.
 fn hear<S: Socket + Drop, K: Keeper, W: Observer>(
-    alloc: Global,
     peers: &mut Peers<S>,
     events: &mut u64,
     server: &mut KeptServer<K>,
@@ -190,7 +184,7 @@ fn hear<S: Socket + Drop, K: Keeper, W: Observer>(
         let new = scene keys (keeping K.kept server.new) peers.new events.new (W.output observer.new) in
         MatchResult result (λ more. GoesOn S.remaining S.contents S.calls W.text number old new more) (Stops S.remaining S.contents S.calls W.text old new) }
 {
-    let mut piece = Vec::new(alloc);
+    let mut piece = Vec::new(server.alloc);
     let Ok(heard) = peers.read(number, &mut piece) else {
         return Err(ServeFault::Memory);
     };
@@ -198,7 +192,7 @@ fn hear<S: Socket + Drop, K: Keeper, W: Observer>(
     if !heard.is_piece() {
         return Ok(more);
     }
-    match hand_in_piece(alloc, peers, events, server, observer, number, piece) {
+    match hand_in_piece(peers, events, server, observer, number, piece) {
         Ok(()) => Ok(more),
         Err(fault) => Err(fault),
     }
@@ -206,7 +200,6 @@ fn hear<S: Socket + Drop, K: Keeper, W: Observer>(
 
 // Tells the server, and the observer, that a connection is no more.
 fn hand_in_end<S: Socket + Drop, K: Keeper, W: Observer>(
-    alloc: Global,
     peers: &mut Peers<S>,
     events: &mut u64,
     server: &mut KeptServer<K>,
@@ -221,7 +214,7 @@ fn hand_in_end<S: Socket + Drop, K: Keeper, W: Observer>(
     let gone = Event::Gone {
         conn: departure.number,
     };
-    match hand_in(alloc, peers, events, server, observer, &gone) {
+    match hand_in(peers, events, server, observer, &gone) {
         Ok(_) => {
             observer.closed(departure.number, departure.end);
             Ok(())
@@ -232,7 +225,6 @@ fn hand_in_end<S: Socket + Drop, K: Keeper, W: Observer>(
 
 // Tells the server, and the observer, where a connection is no more and they weren't told yet.
 fn depart<S: Socket + Drop, K: Keeper, W: Observer>(
-    alloc: Global,
     peers: &mut Peers<S>,
     events: &mut u64,
     server: &mut KeptServer<K>,
@@ -250,14 +242,13 @@ fn depart<S: Socket + Drop, K: Keeper, W: Observer>(
             number,
             end: peers.end_of(number),
         };
-        return hand_in_end(alloc, peers, events, server, observer, departure);
+        return hand_in_end(peers, events, server, observer, departure);
     }
     Ok(())
 }
 
 // Tells the server where a connection is no more, and lets go of its socket once all that it is owed was written.
 fn finish<S: Socket + Drop, K: Keeper, W: Observer>(
-    alloc: Global,
     peers: &mut Peers<S>,
     events: &mut u64,
     server: &mut KeptServer<K>,
@@ -270,7 +261,7 @@ fn finish<S: Socket + Drop, K: Keeper, W: Observer>(
         MatchResult result (λ _. Finishes S.remaining S.contents S.calls W.text number old new) (Stops S.remaining S.contents S.calls W.text old new) }
     ensures told { OnOk result (departs_at peers.new number ≡ false) }
 {
-    match depart(alloc, peers, events, server, observer, number) {
+    match depart(peers, events, server, observer, number) {
         Ok(()) => {
             peers.release(number);
             Ok(())
@@ -281,7 +272,6 @@ fn finish<S: Socket + Drop, K: Keeper, W: Observer>(
 
 // Hands in a piece that a socket has sent. One that may have more then is to be looked at again, behind all others.
 fn read_piece<S: Socket + Drop, K: Keeper, W: Observer>(
-    alloc: Global,
     peers: &mut Peers<S>,
     events: &mut u64,
     server: &mut KeptServer<K>,
@@ -293,7 +283,7 @@ fn read_piece<S: Socket + Drop, K: Keeper, W: Observer>(
         let new = scene keys (keeping K.kept server.new) peers.new events.new (W.output observer.new) in
         MatchResult result (λ _. ReadsOn S.remaining S.contents S.calls W.text number old new) (Stops S.remaining S.contents S.calls W.text old new) }
 {
-    match hear(alloc, peers, events, server, observer, number) {
+    match hear(peers, events, server, observer, number) {
         Ok(true) => match peers.report(number, READABLE) {
             Ok(()) => Ok(()),
             Err(_) => Err(ServeFault::Memory),
@@ -369,7 +359,6 @@ fn look_on<S: Socket + Drop, K: Keeper>(
 // Looks at a socket: writes what it is owed, hands in what it has sent, tells the server where its connection is no more, and
 // lets go of it where it is done with.
 fn attend<S: Socket + Drop, K: Keeper, W: Observer>(
-    alloc: Global,
     peers: &mut Peers<S>,
     events: &mut u64,
     server: &mut KeptServer<K>,
@@ -386,15 +375,14 @@ fn attend<S: Socket + Drop, K: Keeper, W: Observer>(
         Ok(()) => {}
         Err(fault) => return Err(fault),
     }
-    match read_piece(alloc, peers, events, server, observer, number) {
-        Ok(()) => finish(alloc, peers, events, server, observer, number),
+    match read_piece(peers, events, server, observer, number) {
+        Ok(()) => finish(peers, events, server, observer, number),
         Err(fault) => Err(fault),
     }
 }
 
 // Looks at these sockets, one after the other.
 fn attend_each<S: Socket + Drop, K: Keeper, W: Observer>(
-    alloc: Global,
     peers: &mut Peers<S>,
     events: &mut u64,
     server: &mut KeptServer<K>,
@@ -407,7 +395,7 @@ fn attend_each<S: Socket + Drop, K: Keeper, W: Observer>(
         MatchResult result (λ _. AttendsEach S.remaining S.contents S.calls W.text numbers.now old new) (Stops S.remaining S.contents S.calls W.text old new) }
 {
     for number in numbers {
-        match attend(alloc, peers, events, server, observer, *number) {
+        match attend(peers, events, server, observer, *number) {
             Ok(()) => {}
             Err(fault) => return Err(fault),
         }
@@ -419,7 +407,6 @@ fn attend_each<S: Socket + Drop, K: Keeper, W: Observer>(
 /// together, behind the last of at most 16 that are read from: so writes come in a row, while their code is at hand. And what it
 /// stores of several of them is kept together, right before that.
 pub(crate) fn attend_all<S: Socket + Drop, K: Keeper, W: Observer>(
-    alloc: Global,
     peers: &mut Peers<S>,
     events: &mut u64,
     server: &mut KeptServer<K>,
@@ -434,9 +421,9 @@ pub(crate) fn attend_all<S: Socket + Drop, K: Keeper, W: Observer>(
         Ok(()) => {}
         Err(fault) => return Err(fault),
     }
-    let awake = peers.take_awake(alloc);
+    let awake = peers.take_awake(server.alloc);
     for group in awake.chunks(GROUP) {
-        match attend_each(alloc, peers, events, server, observer, group) {
+        match attend_each(peers, events, server, observer, group) {
             Ok(()) => {}
             Err(fault) => return Err(fault),
         }
@@ -451,7 +438,6 @@ pub(crate) fn attend_all<S: Socket + Drop, K: Keeper, W: Observer>(
 /// Takes in a socket that has connected, and looks at it at once: it may have sent its first frame, or be
 /// gone again.
 pub(crate) fn join_socket<S: Socket + Drop, K: Keeper, W: Observer>(
-    alloc: Global,
     peers: &mut Peers<S>,
     events: &mut u64,
     server: &mut KeptServer<K>,
@@ -467,8 +453,8 @@ pub(crate) fn join_socket<S: Socket + Drop, K: Keeper, W: Observer>(
         MatchResult result (λ _. TakesIn S.remaining S.contents S.calls W.text arrival.address_bits old new) (Stops S.remaining S.contents S.calls W.text old new) }
 {
     let number = arrival.number;
-    match admit(alloc, peers, events, server, observer, arrival, stream) {
-        Ok(()) => attend(alloc, peers, events, server, observer, number),
+    match admit(peers, events, server, observer, arrival, stream) {
+        Ok(()) => attend(peers, events, server, observer, number),
         Err(fault) => Err(fault),
     }
 }
@@ -476,7 +462,6 @@ pub(crate) fn join_socket<S: Socket + Drop, K: Keeper, W: Observer>(
 // Lets go of a socket to which nothing was sent for as long as one may stay so, and of no other. The server and the observer are told
 // that its connection is no more, unless they were told before.
 fn expire<S: Socket + Drop, K: Keeper, W: Observer>(
-    alloc: Global,
     peers: &mut Peers<S>,
     events: &mut u64,
     server: &mut KeptServer<K>,
@@ -495,7 +480,7 @@ fn expire<S: Socket + Drop, K: Keeper, W: Observer>(
                 number,
                 end: peers.end_of(number),
             };
-            hand_in_end(alloc, peers, events, server, observer, departure)
+            hand_in_end(peers, events, server, observer, departure)
         }
         Some(true) => Ok(()),
         None => Ok(()),
@@ -504,7 +489,6 @@ fn expire<S: Socket + Drop, K: Keeper, W: Observer>(
 
 // Lets go of the silent ones among these sockets.
 fn expire_each<S: Socket + Drop, K: Keeper, W: Observer>(
-    alloc: Global,
     peers: &mut Peers<S>,
     events: &mut u64,
     server: &mut KeptServer<K>,
@@ -517,7 +501,7 @@ fn expire_each<S: Socket + Drop, K: Keeper, W: Observer>(
         MatchResult result (λ _. ExpiresAmong S.remaining S.contents S.calls W.text numbers.now old new) (Stops S.remaining S.contents S.calls W.text old new) }
 {
     for number in numbers {
-        match expire(alloc, peers, events, server, observer, *number) {
+        match expire(peers, events, server, observer, *number) {
             Ok(()) => {}
             Err(fault) => return Err(fault),
         }
@@ -528,7 +512,6 @@ fn expire_each<S: Socket + Drop, K: Keeper, W: Observer>(
 /// Lets go of the sockets to which nothing was sent for as long as one may stay so, where they were last looked for a second ago or
 /// more.
 pub(crate) fn sweep<S: Socket + Drop, K: Keeper, W: Observer>(
-    alloc: Global,
     peers: &mut Peers<S>,
     events: &mut u64,
     server: &mut KeptServer<K>,
@@ -542,8 +525,8 @@ pub(crate) fn sweep<S: Socket + Drop, K: Keeper, W: Observer>(
     if !peers.is_sweep_due() {
         return Ok(());
     }
-    let Ok(numbers) = peers.begin_sweep(alloc) else {
+    let Ok(numbers) = peers.begin_sweep(server.alloc) else {
         return Err(ServeFault::Memory);
     };
-    expire_each(alloc, peers, events, server, observer, numbers.as_slice())
+    expire_each(peers, events, server, observer, numbers.as_slice())
 }

@@ -17,6 +17,8 @@ use ua_types::Listed;
 /// is kept.
 #[derive(Drop)]
 pub struct KeptServer<K> {
+    // Whose memory all that is served takes.
+    pub(crate) alloc: Global,
     server: Server,
     keeper: K,
     // In the order in which it was stored.
@@ -38,6 +40,7 @@ impl<K: Keeper> KeptServer<K> {
         ensures { keeping K.kept result ≡ keeping_all (world_of server) (K.kept keeper) }
     {
         KeptServer {
+            alloc,
             server,
             keeper,
             waiting: Vec::new(alloc),
@@ -52,10 +55,10 @@ impl<K: Keeper> KeptServer<K> {
     }
 
     /// Has the server answer an event. What it stores at it waits to be kept from then on. At `Memory` it may be lost.
-    pub(crate) fn step(&mut self, alloc: Global, event: &Event) -> Result<Answer, ServeFault>
+    pub(crate) fn step(&mut self, event: &Event) -> Result<Answer, ServeFault>
         ensures { Steps event.now (keeping K.kept self.old) (keeping K.kept self.new) result }
     {
-        let step = match self.server.step(alloc, event) {
+        let step = match self.server.step(self.alloc, event) {
             Ok(step) => step,
             Err(fault) => return Err(ServeFault::Step(fault)),
         };

@@ -285,7 +285,6 @@ impl Serve {
     pub fn run<R: Clock + Wait, K: Keeper, W: Observer, U: Until<R>>(
         &mut self,
         rt: &R,
-        alloc: Global,
         server: &mut KeptServer<K>,
         observer: &mut W,
         until: &mut U,
@@ -294,8 +293,8 @@ impl Serve {
             let new = scene (key_stream self.new.keys) (keeping K.kept server.new) self.new.peers self.new.events (W.output observer.new) in
             MatchResult result (λ _. ServesUntil unknown unknown uncounted W.text U.may_ask (U.most until.old) old new) (GivesUp unknown unknown uncounted W.text old new) }
     {
-        match self.run_on(rt, alloc, server, observer, until) {
-            Ok(()) => self.tell_the_end(alloc, server, observer),
+        match self.run_on(rt, server, observer, until) {
+            Ok(()) => self.tell_the_end(server, observer),
             Err(fault) => Err(fault),
         }
     }
@@ -304,7 +303,6 @@ impl Serve {
     fn run_on<R: Clock + Wait, K: Keeper, W: Observer, U: Until<R>>(
         &mut self,
         rt: &R,
-        alloc: Global,
         server: &mut KeptServer<K>,
         observer: &mut W,
         until: &mut U,
@@ -316,7 +314,7 @@ impl Serve {
         // 0 where there is no bound.
         let mut left = until.turns();
         for _turn in rt.forever() {
-            match self.turn(rt, alloc, server, observer) {
+            match self.turn(rt, server, observer) {
                 Ok(()) => {}
                 Err(fault) => return Err(fault),
             }
@@ -336,7 +334,6 @@ impl Serve {
     fn turn<R: Clock, K: Keeper, W: Observer>(
         &mut self,
         rt: &R,
-        alloc: Global,
         server: &mut KeptServer<K>,
         observer: &mut W,
     ) -> Result<(), ServeFault>
@@ -344,9 +341,9 @@ impl Serve {
             let new = scene (key_stream self.new.keys) (keeping K.kept server.new) self.new.peers self.new.events (W.output observer.new) in
             MatchResult result (λ _. TakesTurn unknown unknown uncounted W.text old new) (GivesUp unknown unknown uncounted W.text old new) }
     {
-        match self.take_turn(rt, alloc, server, observer) {
+        match self.take_turn(rt, server, observer) {
             Ok(()) => {
-                observer.turned(alloc, self, server.server());
+                observer.turned(server.alloc, self, server.server());
                 Ok(())
             }
             Err(fault) => {
@@ -359,7 +356,6 @@ impl Serve {
     fn take_turn<R: Clock, K: Keeper, W: Observer>(
         &mut self,
         rt: &R,
-        alloc: Global,
         server: &mut KeptServer<K>,
         observer: &mut W,
     ) -> Result<(), ServeFault>
@@ -374,22 +370,16 @@ impl Serve {
         let Ok(now) = moment(rt) else {
             return Err(ServeFault::Network);
         };
-        match self.tick(alloc, server, observer, now) {
+        match self.tick(server, observer, now) {
             Ok(()) => {}
             Err(fault) => return Err(fault),
         }
-        match self.accept_all(alloc, server, observer) {
+        match self.accept_all(server, observer) {
             Ok(()) => {}
             Err(fault) => return Err(fault),
         }
-        match self.expire_silent(alloc, server, observer) {
-            Ok(()) => attend_all(
-                alloc,
-                &mut self.peers,
-                &mut self.events_so_far,
-                server,
-                observer,
-            ),
+        match self.expire_silent(server, observer) {
+            Ok(()) => attend_all(&mut self.peers, &mut self.events_so_far, server, observer),
             Err(fault) => Err(fault),
         }
     }
@@ -397,7 +387,6 @@ impl Serve {
     // Tells the sockets and the server the time.
     fn tick<K: Keeper, W: Observer>(
         &mut self,
-        alloc: Global,
         server: &mut KeptServer<K>,
         observer: &mut W,
         now: Moment,
@@ -407,13 +396,12 @@ impl Serve {
             MatchResult result (λ _. Does unknown unknown uncounted W.text (Passes now) old new) (Fails W.text (ending.Tick now) old new) }
     {
         self.peers.tell_time(now);
-        self.tell(alloc, server, observer, &ServerEvent::Tick { now })
+        self.tell(server, observer, &ServerEvent::Tick { now })
     }
 
     // Lets go of silent sockets, once a second.
     fn expire_silent<K: Keeper, W: Observer>(
         &mut self,
-        alloc: Global,
         server: &mut KeptServer<K>,
         observer: &mut W,
     ) -> Result<(), ServeFault>
@@ -421,19 +409,12 @@ impl Serve {
             let new = scene (key_stream self.new.keys) (keeping K.kept server.new) self.new.peers self.new.events (W.output observer.new) in
             MatchResult result (λ _. SweepsIfDue unknown unknown uncounted W.text (is_sweep_due self.old.peers) old new) (Stops unknown unknown uncounted W.text old new) }
     {
-        sweep(
-            alloc,
-            &mut self.peers,
-            &mut self.events_so_far,
-            server,
-            observer,
-        )
+        sweep(&mut self.peers, &mut self.events_so_far, server, observer)
     }
 
     // Tells the server what happened.
     fn tell<K: Keeper, W: Observer>(
         &mut self,
-        alloc: Global,
         server: &mut KeptServer<K>,
         observer: &mut W,
         event: &ServerEvent,
@@ -443,7 +424,6 @@ impl Serve {
             MatchResult result (λ _. Takes W.text event.now old new) (Fails W.text event.now old new) }
     {
         match hand_in(
-            alloc,
             &mut self.peers,
             &mut self.events_so_far,
             server,
@@ -458,7 +438,6 @@ impl Serve {
     // Tells the server to end, has what waits be kept, and writes what the sockets take of what it sends then.
     fn tell_the_end<K: Keeper, W: Observer>(
         &mut self,
-        alloc: Global,
         server: &mut KeptServer<K>,
         observer: &mut W,
     ) -> Result<(), ServeFault>
@@ -466,7 +445,7 @@ impl Serve {
             let new = scene (key_stream self.new.keys) (keeping K.kept server.new) self.new.peers self.new.events (W.output observer.new) in
             MatchResult result (λ _. HandsIn unknown unknown uncounted W.text ending.Shutdown old new) (GivesUp unknown unknown uncounted W.text old new) }
     {
-        match self.tell(alloc, server, observer, &ServerEvent::Shutdown) {
+        match self.tell(server, observer, &ServerEvent::Shutdown) {
             Ok(()) => {}
             Err(fault) => return Err(fault),
         }
@@ -498,7 +477,6 @@ impl Serve {
     // Takes in those who have connected. Where there may be more than a turn takes in, the next one doesn't wait.
     fn accept_all<K: Keeper, W: Observer>(
         &mut self,
-        alloc: Global,
         server: &mut KeptServer<K>,
         observer: &mut W,
     ) -> Result<(), ServeFault>
@@ -506,7 +484,7 @@ impl Serve {
             let new = scene (key_stream self.new.keys) (keeping K.kept server.new) self.new.peers self.new.events (W.output observer.new) in
             MatchResult result (λ _. TakesInSome unknown unknown uncounted W.text old new) (Stops unknown unknown uncounted W.text old new) }
     {
-        match self.accept_some(alloc, server, observer) {
+        match self.accept_some(server, observer) {
             Ok(is_backlogged) => {
                 self.is_backlogged = is_backlogged;
                 Ok(())
@@ -518,7 +496,6 @@ impl Serve {
     // Takes in as many of those who have connected as a turn may. Says whether they were as many.
     fn accept_some<K: Keeper, W: Observer>(
         &mut self,
-        alloc: Global,
         server: &mut KeptServer<K>,
         observer: &mut W,
     ) -> Result<bool, ServeFault>
@@ -530,7 +507,7 @@ impl Serve {
             let Some((stream, address)) = self.accept() else {
                 return Ok(false);
             };
-            match self.take_in(alloc, server, observer, stream, address) {
+            match self.take_in(server, observer, stream, address) {
                 Ok(()) => {}
                 Err(fault) => return Err(fault),
             }
@@ -567,7 +544,6 @@ impl Serve {
     // one that can't be waited for is let go of.
     fn take_in<K: Keeper, W: Observer>(
         &mut self,
-        alloc: Global,
         server: &mut KeptServer<K>,
         observer: &mut W,
         mut stream: TcpStream,
@@ -603,7 +579,6 @@ impl Serve {
             key: fresh_key(&mut self.keys),
         };
         join_socket(
-            alloc,
             &mut self.peers,
             &mut self.events_so_far,
             server,
