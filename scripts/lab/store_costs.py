@@ -4,7 +4,7 @@
 usage: scripts/lab/store_costs.py PROGRAM [SECONDS]      build the program by fast_program.py, or take the proved one
 
 Clients are processes of Python, each with a session of its own, that write one variable each, one value a Write. C SQLite is Python's
-`sqlite3` on the same disk: one transaction a Write, by DELETE and INSERT into `value` alone, synced: no history and no server. Beside that a
+`sqlite3` on the same disk: one transaction a Write, by UPDATE of `value` alone, synced: no history and no server. Beside that a
 store of 1,000,000 values is opened, and of one client's Writes the processor time of the server is taken, and the longest that one waited.
 Needs Linux.
 """
@@ -87,11 +87,11 @@ def times_of(process):
 def by_sqlite(folder, seconds):
     base = sqlite3.connect(os.path.join(folder, "by_c.db"), isolation_level=None)
     base.executescript("PRAGMA journal_mode = WAL; PRAGMA synchronous = FULL;" + TABLES)
+    base.execute("INSERT INTO value VALUES ('ns=1;i=1', 5, 0, 0, 0, 0)")
     count, end = 0, time.monotonic() + seconds
     while time.monotonic() < end:
         base.execute("BEGIN")
-        base.execute("DELETE FROM value WHERE node = ?", ("ns=1;i=1",))
-        base.execute("INSERT INTO value VALUES (?, 5, ?, 0, ?, ?)", ("ns=1;i=1", count, count, count))
+        base.execute("UPDATE value SET value = ?, source_time = ?, server_time = ? WHERE node = 'ns=1;i=1'", (count, count, count))
         base.execute("COMMIT")
         count += 1
     base.close()

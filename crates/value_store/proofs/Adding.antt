@@ -27,7 +27,7 @@ either : (b : Bool) (x : Value) → cond b x x ≡ x
 either true x = refl
 either false x = refl
 
-cast_int : (n : ℤ) → cast Integer (Int n) ≡ Int n
+pub cast_int : (n : ℤ) → cast Integer (Int n) ≡ Int n
 unfolding unary
 cast_int n = either _ (Int n)
 
@@ -35,11 +35,11 @@ cast_null : cast Integer Null ≡ Null
 unfolding unary
 cast_null = either _ Null
 
-cast_time : (t : Option ℤ) → cast Integer (or_null Int t) ≡ or_null Int t
+pub cast_time : (t : Option ℤ) → cast Integer (or_null Int t) ≡ or_null Int t
 cast_time None = cast_null
 cast_time (Some n) = cast_int n
 
-untaken : (b c : Bool) → (not b && c) ≡ true → b ≡ false
+pub untaken : (b c : Bool) → (not b && c) ≡ true → b ≡ false
 untaken true c h = absurd (true≢false (sym h))
 untaken false c h = refl
 

@@ -1,6 +1,6 @@
--- What DELETE under a key does.
+-- Which rows a statement finds under a key, and what DELETE does.
 use Rattle.std.proofs.Common.{◌≡◌, inl, inr, ℕ, ℤ, List, [], ◌∷◌, ◌++◌, map, Bool, true, false, cond, ◌&&◌, Option, Some, None, Ok, refl, sym, ap, subst, ◌∙◌, true≢false}
-use Rattle.std.specs.Prelude.{flat_map, IsPermutation}
+use Rattle.std.specs.Prelude.{flat_map, IsPermutation, string_bytes}
 use Rattle.std.specs.Ordering.{is_eq}
 use Rattle.std.proofs.lemmas.List.Sorted.{IsPermutation-map, IsPermutation-sym, Contains-permutation}
 use Rattle.sqlite.specs.declared.types.Value.{Value}
@@ -24,48 +24,50 @@ use Rattle.sqlite_rules.specs.Lists.{Has}
 use Rattle.sqlite_rules.specs.Calls.{ids_of}
 use Rattle.sqlite_rules.proofs.ListLemmas.{has_contained, contains_had}
 use Rattle.sqlite.proofs.Callers.{one_step}
+use Rattle.value_store.specs.declared.rows.Key.{Key}
 use Rattle.value_store.specs.declared.rows.TableName.{TableName}
 use Rattle.value_store.specs.declared.rows.TableName.TheVariants as table
 use Rattle.value_store.specs.Tables.{value_table, history_table, store_schema}
-use Rattle.value_store.specs.Laws.{numbers_where, is_given, rows_with_key}
+use Rattle.value_store.specs.Laws.{rows_where, key_tests, with_key, number_alone}
 use Rattle.value_store.specs.Rows.{key_in}
 use Rattle.value_store.specs.Model.{tree_of, is_of_node, is_when, is_at}
 use Rattle.value_store.proofs.Settling.{went, same_value}
 use Rattle.value_store.proofs.Taking.{AreOf}
 
--- the numbers of the rows that pass
-numbers : (Row → Bool) → List Row → List Row
-numbers p [] = []
-numbers p (r ∷ rows) = cond (p r) ((rowid r ∷ []) ∷ numbers p rows) (numbers p rows)
+-- what is shown of the rows that pass
+marked : (Row → Row) → (Row → Bool) → List Row → List Row
+marked f p [] = []
+marked f p (r ∷ rows) = cond (p r) (f r ∷ marked f p rows) (marked f p rows)
 
-numbers_sound : (p : Row → Bool) (rows : List Row) (x : Row) → Has (numbers p rows) x → (r : Row) × Has rows r × (p r ≡ true) × (x ≡ rowid r ∷ [])
-unfolding numbers
-numbers_sound p [] x h = absurd h
-numbers_sound p (r ∷ rows) x h = go (p r) refl h (numbers_sound p rows x)
+marked_sound : (f : Row → Row) (p : Row → Bool) (rows : List Row) (x : Row) → Has (marked f p rows) x → (r : Row) × Has rows r × (p r ≡ true) × (x ≡ f r)
+unfolding marked
+marked_sound f p [] x h = absurd h
+marked_sound f p (r ∷ rows) x h = go (p r) refl h (marked_sound f p rows x)
   where
-    go : (b : Bool) → p r ≡ b → Has (cond b ((rowid r ∷ []) ∷ numbers p rows) (numbers p rows)) x
-        → (Has (numbers p rows) x → (s : Row) × Has rows s × (p s ≡ true) × (x ≡ rowid s ∷ [])) → (s : Row) × Has (r ∷ rows) s × (p s ≡ true) × (x ≡ rowid s ∷ [])
+    go : (b : Bool) → p r ≡ b → Has (cond b (f r ∷ marked f p rows) (marked f p rows)) x
+        → (Has (marked f p rows) x → (s : Row) × Has rows s × (p s ≡ true) × (x ≡ f s)) → (s : Row) × Has (r ∷ rows) s × (p s ≡ true) × (x ≡ f s)
     go true is (inl same) later = (r, inl refl, is, same)
     go true is (inr h) later = let s = later h in (s.0, inr s.1, s.2, s.3)
     go false is h later = let s = later h in (s.0, inr s.1, s.2, s.3)
 
-numbers_complete : (p : Row → Bool) (rows : List Row) (r : Row) → Has rows r → p r ≡ true → Has (numbers p rows) (rowid r ∷ [])
-unfolding numbers
-numbers_complete p [] r h passes = absurd h
-numbers_complete p (x ∷ rows) r (inl same) passes = subst (λ b. Has (cond b ((rowid x ∷ []) ∷ numbers p rows) (numbers p rows)) (rowid r ∷ [])) (sym (sym (ap p same) ∙ passes)) (inl (ap (λ z. rowid z ∷ []) same))
-numbers_complete p (x ∷ rows) r (inr h) passes = go (p x) (numbers_complete p rows r h passes)
+marked_complete : (f : Row → Row) (p : Row → Bool) (rows : List Row) (r : Row) → Has rows r → p r ≡ true → Has (marked f p rows) (f r)
+unfolding marked
+marked_complete f p [] r h passes = absurd h
+marked_complete f p (x ∷ rows) r (inl same) passes = subst (λ b. Has (cond b (f x ∷ marked f p rows) (marked f p rows)) (f r)) (sym (sym (ap p same) ∙ passes)) (inl (ap f same))
+marked_complete f p (x ∷ rows) r (inr h) passes = go (p x) (marked_complete f p rows r h passes)
   where
-    go : (b : Bool) → Has (numbers p rows) (rowid r ∷ []) → Has (cond b ((rowid x ∷ []) ∷ numbers p rows) (numbers p rows)) (rowid r ∷ [])
+    go : (b : Bool) → Has (marked f p rows) (f r) → Has (cond b (f x ∷ marked f p rows) (marked f p rows)) (f r)
     go true there = inr there
     go false there = there
 
 pub moved : (xs ys : List Row) (x : Row) → IsPermutation xs ys → Has xs x → Has ys x
 moved xs ys x same h = has_contained ys x (Contains-permutation xs ys x same (contains_had xs x h))
 
-are_of : (p : Row → Bool) (rows found : List Row) → IsPermutation (numbers p rows) found → AreOf p rows found
-are_of p rows found same = record {
-  sound = λ x h. numbers_sound p rows x (moved found (numbers p rows) x (IsPermutation-sym (numbers p rows) found same) h);
-  complete = λ r h passes. moved (numbers p rows) found (rowid r ∷ []) same (numbers_complete p rows r h passes);
+are_of : (f : Row → Row) (p : Row → Bool) (rows found : List Row) → ((r : Row) → rowid (f r) ≡ rowid r) → IsPermutation (marked f p rows) found → AreOf f p rows found
+are_of f p rows found own same = record {
+  own = own;
+  sound = λ x h. marked_sound f p rows x (moved found (marked f p rows) x (IsPermutation-sym (marked f p rows) found same) h);
+  complete = λ r h passes. moved (marked f p rows) found (f r) same (marked_complete f p rows r h passes);
 }
 
 told_true : (b : Bool) → is_true (from_truth (Some b)) ≡ b
@@ -105,18 +107,28 @@ tested_when v (Some n) = tested_int v n
 abbrev shown_of : Query → (Row → Bool) → Row → List Row → List Row
 shown_of q test params rows = map (λ (o : Output). o.1) (map (output q) (flat_map (λ (r : Row). cond (test r) ((params ∷ r ∷ []) ∷ []) []) rows))
 
-shown_are : (q : Query) (test p : Row → Bool) (params : Row) → ((r : Row) → (output q (params ∷ r ∷ [])).1 ≡ rowid r ∷ []) → ((r : Row) → test r ≡ p r) → (rows : List Row) → shown_of q test params rows ≡ numbers p rows
-unfolding numbers
-shown_are q test p params shows alike [] = refl
-shown_are q test p params shows alike (r ∷ rows) = go (test r) (p r) (alike r) (shown_are q test p params shows alike rows)
+shown_are : (q : Query) (f : Row → Row) (test p : Row → Bool) (params : Row) → ((r : Row) → (output q (params ∷ r ∷ [])).1 ≡ f r) → ((r : Row) → test r ≡ p r) → (rows : List Row) → shown_of q test params rows ≡ marked f p rows
+unfolding marked
+shown_are q f test p params shows alike [] = refl
+shown_are q f test p params shows alike (r ∷ rows) = go (test r) (p r) (alike r) (shown_are q f test p params shows alike rows)
   where
-    go : (a b : Bool) → a ≡ b → shown_of q test params rows ≡ numbers p rows
+    go : (a b : Bool) → a ≡ b → shown_of q test params rows ≡ marked f p rows
         → map (λ (o : Output). o.1) (map (output q) (cond a ((params ∷ r ∷ []) ∷ []) [] ++ flat_map (λ (r : Row). cond (test r) ((params ∷ r ∷ []) ∷ []) []) rows))
-        ≡ cond b ((rowid r ∷ []) ∷ numbers p rows) (numbers p rows)
-    go true true same later = ap (λ more. (output q (params ∷ r ∷ [])).1 ∷ more) later ∙ ap (λ x. x ∷ numbers p rows) (shows r)
+        ≡ cond b (f r ∷ marked f p rows) (marked f p rows)
+    go true true same later = ap (λ more. (output q (params ∷ r ∷ [])).1 ∷ more) later ∙ ap (λ x. x ∷ marked f p rows) (shows r)
     go false false same later = later
     go true false same later = absurd (true≢false same)
     go false true same later = absurd (true≢false (sym same))
+
+-- what the rows that pass show is what the statement is given
+pub given_are : (q : Query) (f : Row → Row) (test p : Row → Bool) (params : Row) (db : Trees) (rows found : List Row) (a : IsAnswer q (overlay db []) params found)
+    → found ≡ map (λ (o : Output). o.1) a.ordered → a.kept ≡ map (output q) (flat_map (λ (r : Row). cond (test r) ((params ∷ r ∷ []) ∷ []) []) rows)
+    → ((r : Row) → (output q (params ∷ r ∷ [])).1 ≡ f r) → ((r : Row) → test r ≡ p r) → ((r : Row) → rowid (f r) ≡ rowid r) → AreOf f p rows found
+given_are q f test p params db rows found a is kept shows alike own =
+    let same = IsPermutation-map (λ (o : Output). o.1) a.kept a.ordered a.same in
+    let shown : IsPermutation (map (λ (o : Output). o.1) a.kept) found = subst (IsPermutation (map (λ (o : Output). o.1) a.kept)) (sym is) same in
+    let all : map (λ (o : Output). o.1) a.kept ≡ marked f p rows = ap (map (λ (o : Output). o.1)) kept ∙ shown_are q f test p params shows alike rows in
+    are_of f p rows found own (subst (λ xs. IsPermutation xs found) all shown)
 
 abbrev pub other : TableName → TableName
 other table.Value = table.History
@@ -124,8 +136,9 @@ other table.History = table.Value
 
 -- what is left of one table, and the other
 pub record Drops (s : TableName) (p : Row → Bool) (db next : Trees) : Type 0 where
+  pub shows : Row → Row
   pub found : List Row
-  pub are : AreOf p (db (tree_of s)) found
+  pub are : AreOf shows p (db (tree_of s)) found
   pub rows : next (tree_of s) ≡ without_all (db (tree_of s)) (ids_of found)
   pub rest : next (tree_of (other s)) ≡ db (tree_of (other s))
 
@@ -136,18 +149,20 @@ abbrev pub table_in : TableName → Table
 table_in table.Value = value_table
 table_in table.History = history_table
 
-abbrev value_tests : Row → List ℕ → Bool
-value_tests r node = is_true (binary (Compare Eq Binary) (column r 1) (Text node)) && true
+abbrev pub value_tests : List ℕ → Row → Bool
+value_tests node r = is_true (binary (Compare Eq Binary) (column r 1) (Text node)) && true
 
-value_alike : (node : List ℕ) (r : Row) → value_tests r node ≡ is_of_node node r
+pub value_alike : (node : List ℕ) (r : Row) → value_tests node r ≡ is_of_node node r
 value_alike node r = rw (tested_text (column r 1) node) (plain (is_of_node node r))
   where
     plain : (b : Bool) → (b && true) ≡ b
     plain true = refl
     plain false = refl
 
-past_alike : (node : List ℕ) (time : Option ℤ) (r : Row)
-    → (is_true (binary (Compare Eq Binary) (column r 1) (Text node)) && (is_true (binary (Compare Eq Binary) (column r 2) (or_null Int time)) && true)) ≡ is_at table.History node time r
+abbrev pub past_tests : List ℕ → Option ℤ → Row → Bool
+past_tests node time r = is_true (binary (Compare Eq Binary) (column r 1) (Text node)) && (is_true (binary (Compare Eq Binary) (column r 2) (or_null Int time)) && true)
+
+pub past_alike : (node : List ℕ) (time : Option ℤ) (r : Row) → past_tests node time r ≡ is_at table.History node time r
 past_alike node time r = rw (tested_text (column r 1) node, tested_when (column r 2) time) (plain (is_of_node node r) (is_when time (column r 2)))
   where
     plain : (a b : Bool) → (a && (b && true)) ≡ (a && b)
@@ -155,40 +170,20 @@ past_alike node time r = rw (tested_text (column r 1) node, tested_when (column 
     plain true false = refl
     plain false b = refl
 
-pub drops_rows : (s : TableName) (limit : Option ℕ) (keys : Keys) (node : List ℕ) (time : Option ℤ) (db : Trees) (w : Written)
-    → Deletes (task_of limit keys (table_in s) (key_in s node time)) (rows_with_key s) db (Ok w) → Drops s (is_at s node time) db w.trees
-drops_rows table.Value limit keys node time db w h =
-    let q = numbers_where 0 (is_given 1 0 ∷ []) in
+pub drops_rows : (limit : Option ℕ) (keys : Keys) (k : Key) (db : Trees) (w : Written)
+    → Deletes (task_of limit keys history_table (key_in k)) (with_key table.History number_alone) db (Ok w) → Drops table.History (is_at table.History (string_bytes k.node) (Some k.time)) db w.trees
+drops_rows limit keys k db w h =
+    let node = string_bytes k.node in
+    let q = rows_where 2 (key_tests table.History) number_alone in
     let given = went h in
     let made = went given.2 in
-    let a : IsAnswer q (overlay db []) (Text node ∷ []) given.0 = given.1.answer Null in
-    let kept = a.distinct ∙ ap (map (output q)) a.grouped in
-    let same = IsPermutation-map (λ (o : Output). o.1) a.kept a.ordered a.same in
-    let shown : IsPermutation (map (λ (o : Output). o.1) a.kept) given.0 = subst (IsPermutation (map (λ (o : Output). o.1) a.kept)) (sym a.shown) same in
-    let all : map (λ (o : Output). o.1) a.kept ≡ numbers (is_of_node node) (db 0) = ap (map (λ (o : Output). o.1)) kept ∙ shown_are q (λ r. value_tests r node) (is_of_node node) (Text node ∷ []) (λ r. refl) (value_alike node) (db 0) in
-    let step = one_step store_schema keys db made.0 (edit_of db value_table (ids_of given.0) Given 0 []) refl made.1 in
-    let trees : w.trees ≡ made.0 = ap (λ (it : Written). it.trees) (same_value made.2) in
-    record {
-      found = given.0;
-      are = are_of (is_of_node node) (db 0) given.0 (subst (λ xs. IsPermutation xs given.0) all shown);
-      rows = ap (λ (t : Trees). t 0) trees ∙ step.rows;
-      rest = ap (λ (t : Trees). t 2) trees ∙ step.tables.1.0 (λ e. cc);
-    }
-drops_rows table.History limit keys node time db w h =
-    let q = numbers_where 2 (is_given 1 0 ∷ is_given 2 1 ∷ []) in
-    let params = Text node ∷ or_null Int time ∷ [] in
-    let given = went h in
-    let made = went given.2 in
-    let a : IsAnswer q (overlay db []) params given.0 = given.1.answer Null in
-    let kept = a.distinct ∙ ap (map (output q)) a.grouped in
-    let same = IsPermutation-map (λ (o : Output). o.1) a.kept a.ordered a.same in
-    let shown : IsPermutation (map (λ (o : Output). o.1) a.kept) given.0 = subst (IsPermutation (map (λ (o : Output). o.1) a.kept)) (sym a.shown) same in
-    let all : map (λ (o : Output). o.1) a.kept ≡ numbers (is_at table.History node time) (db 2) = ap (map (λ (o : Output). o.1)) kept ∙ shown_are q _ (is_at table.History node time) params (λ r. refl) (past_alike node time) (db 2) in
+    let a : IsAnswer q (overlay db []) (key_in k) given.0 = given.1.answer Null in
     let step = one_step store_schema keys db made.0 (edit_of db history_table (ids_of given.0) Given 0 []) refl made.1 in
     let trees : w.trees ≡ made.0 = ap (λ (it : Written). it.trees) (same_value made.2) in
     record {
+      shows = λ r. rowid r ∷ [];
       found = given.0;
-      are = are_of (is_at table.History node time) (db 2) given.0 (subst (λ xs. IsPermutation xs given.0) all shown);
+      are = given_are q (λ r. rowid r ∷ []) (past_tests node (Some k.time)) (is_at table.History node (Some k.time)) (key_in k) db (db 2) given.0 a a.shown (a.distinct ∙ ap (map (output q)) a.grouped) (λ r. refl) (past_alike node (Some k.time)) (λ r. refl);
       rows = ap (λ (t : Trees). t 2) trees ∙ step.rows;
       rest = ap (λ (t : Trees). t 0) trees ∙ step.tables.0 (λ e. cc);
     }

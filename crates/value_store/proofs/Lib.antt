@@ -5,6 +5,7 @@ pub mod Taking
 pub mod Dropping
 pub mod Settling
 pub mod Adding
+pub mod Renewing
 pub mod Changing
 pub mod Closing
 pub mod Columns

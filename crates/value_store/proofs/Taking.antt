@@ -22,16 +22,17 @@ id_of [] i h = absurd h
 id_of (y ∷ found) i (inl same) = (y, inl refl, same)
 id_of (y ∷ found) i (inr h) = let more = id_of found i h in (more.0, inr more.1, more.2)
 
--- the numbers of the rows that pass, and no others
-pub record AreOf (p : Row → Bool) (rows found : List Row) : Type 0 where
-  pub sound : (x : Row) → Has found x → (r : Row) × Has rows r × (p r ≡ true) × (x ≡ rowid r ∷ [])
-  pub complete : (r : Row) → Has rows r → p r ≡ true → Has found (rowid r ∷ [])
+-- what is shown of the rows that pass, their numbers first, and of no others
+pub record AreOf (f : Row → Row) (p : Row → Bool) (rows found : List Row) : Type 0 where
+  pub own : (r : Row) → rowid (f r) ≡ rowid r
+  pub sound : (x : Row) → Has found x → (r : Row) × Has rows r × (p r ≡ true) × (x ≡ f r)
+  pub complete : (r : Row) → Has rows r → p r ≡ true → Has found (f r)
 
-module _ (p : Row → Bool) (rows found : List Row) (numbered : AreNumbered rows) (c : AreOf p rows found) where
+module _ (f : Row → Row) (p : Row → Bool) (rows found : List Row) (numbered : AreNumbered rows) (c : AreOf f p rows found) where
   gone : (r : Row) → Has (without_all rows (ids_of found)) r → p r ≡ false
   gone r there = false_from_ne_true _ (λ passes.
       let was = without_all_has (ids_of found) rows r there in
-      let listed = has_id found (rowid r ∷ []) (c.complete r was passes) in
+      let listed : Has (ids_of found) (id_in (rowid r)) = subst (λ v. Has (ids_of found) (id_in v)) (c.own r) (has_id found (f r) (c.complete r was passes)) in
       let out = all_gone p (ids_of found) rows r (id_in (rowid r)) listed there in
       true≢false (sym (own_number r (has_int rows numbered.0 r was)) ∙ out))
 
@@ -44,7 +45,7 @@ module _ (p : Row → Bool) (rows found : List Row) (numbered : AreNumbered rows
   others_left q apart = keeps_all q (ids_of found) rows (λ i listed r there tied. false_from_ne_true _ (λ passes.
       let y = id_of found i listed in
       let s = c.sound y.0 y.1 in
-      let whose : i ≡ id_in (rowid s.0) = y.2 ∙ ap (λ z. id_in (rowid z)) s.3 in
+      let whose : i ≡ id_in (rowid s.0) = y.2 ∙ (ap (λ z. id_in (rowid z)) s.3 ∙ ap id_in (c.own s.0)) in
       let own = subst (λ n. has_rowid n s.0 ≡ true) (sym whose) (own_number s.0 (has_int rows numbered.0 s.0 s.1)) in
       let it = same_row rows numbered i r s.0 there s.1 tied own in
       true≢false (sym passes ∙ (ap q it ∙ apart s.0 s.2))))

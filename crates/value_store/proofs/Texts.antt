@@ -6,7 +6,7 @@ use Rattle.sqlite.proofs.Callers.{IsPlain}
 use Rattle.value_store.specs.declared.rows.TableName.{TableName}
 use Rattle.value_store.specs.declared.rows.TableName.TheVariants as table
 use Rattle.value_store.specs.Tables.{store_schema}
-use Rattle.value_store.specs.Laws.{add_text, drop_text, rows_text, TablesAreUnderstood, AddsAreUnderstood, DropsAreUnderstood, ReadsAreUnderstood}
+use Rattle.value_store.specs.Laws.{add_text, renew_text, forget_text, rows_text, TablesAreUnderstood, AddsAreUnderstood, RenewalsAreUnderstood, DropsAreUnderstood, ReadsAreUnderstood}
 
 pub tables_are : TablesAreUnderstood
 unfolding understood everything
@@ -17,10 +17,14 @@ unfolding understood everything
 adds_are table.Value = refl
 adds_are table.History = refl
 
+pub renewals_are : RenewalsAreUnderstood
+unfolding understood everything
+renewals_are table.Value = refl
+renewals_are table.History = refl
+
 pub drops_are : DropsAreUnderstood
 unfolding understood everything
-drops_are table.Value = refl
-drops_are table.History = refl
+drops_are = refl
 
 pub reads_are : ReadsAreUnderstood
 unfolding understood everything
@@ -32,10 +36,14 @@ unfolding understood everything
 add_plain table.Value = (refl, refl)
 add_plain table.History = (refl, refl)
 
-pub drop_plain : (t : TableName) → IsPlain (understood store_schema (drop_text t))
+pub renew_plain : (t : TableName) → IsPlain (understood store_schema (renew_text t))
 unfolding understood everything
-drop_plain table.Value = (refl, refl)
-drop_plain table.History = (refl, refl)
+renew_plain table.Value = (refl, refl)
+renew_plain table.History = (refl, refl)
+
+pub forget_plain : IsPlain (understood store_schema forget_text)
+unfolding understood everything
+forget_plain = (refl, refl)
 
 pub rows_plain : (t : TableName) → IsPlain (understood store_schema (rows_text t))
 unfolding understood everything

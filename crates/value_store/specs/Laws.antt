@@ -6,7 +6,7 @@ use Rattle.sqlite.specs.Source.TheVariants.{Values}
 use Rattle.sqlite.specs.Collation.TheVariants.{Binary}
 use Rattle.sqlite_sql.specs.declared.ops.BinaryOp.TheVariants.{Compare}
 use Rattle.sqlite_sql.specs.declared.ops.CompareOp.TheVariants.{Eq}
-use Rattle.sqlite.specs.Command.TheVariants.{Insert, Select, Delete}
+use Rattle.sqlite.specs.Command.TheVariants.{Insert, Select, Update, Delete}
 use Rattle.sqlite.specs.Listing.{understood, reads_listing}
 use Rattle.sqlite.specs.Query.{Query, inner, end}
 use Rattle.sqlite_schema.specs.declared.program.Program.{Program}
@@ -22,9 +22,12 @@ abbrev pub add_text : TableName → List ℕ
 add_text table.Value = codes "INSERT INTO value (node, type, value, status, source_time, server_time) VALUES (?1, ?2, ?3, ?4, ?5, ?6)"
 add_text table.History = codes "INSERT INTO history (node, time, type, value, status, server_time) VALUES (?1, ?2, ?3, ?4, ?5, ?6)"
 
-abbrev pub drop_text : TableName → List ℕ
-drop_text table.Value = codes "DELETE FROM value WHERE node = ?1"
-drop_text table.History = codes "DELETE FROM history WHERE node = ?1 AND time = ?2"
+abbrev pub renew_text : TableName → List ℕ
+renew_text table.Value = codes "UPDATE value SET node = ?1, type = ?2, value = ?3, status = ?4, source_time = ?5, server_time = ?6 WHERE node = ?1"
+renew_text table.History = codes "UPDATE history SET node = ?1, time = ?2, type = ?3, value = ?4, status = ?5, server_time = ?6 WHERE node = ?1 AND time = ?2"
+
+abbrev pub forget_text : List ℕ
+forget_text = codes "DELETE FROM history WHERE node = ?1 AND time = ?2"
 
 abbrev pub rows_text : TableName → List ℕ
 rows_text table.Value = codes "SELECT rowid, node, type, value, status, source_time, server_time FROM value"
@@ -48,13 +51,13 @@ place_of table.History = 1
 abbrev pub AddsAreUnderstood : Type 0
 AddsAreUnderstood = (t : TableName) → command_of (understood store_schema (add_text t)) ≡ Insert (place_of t) (Values terms 7)
 
--- the numbers of the rows of one table that pass some tests
-abbrev pub numbers_where : ℕ → List Term → Query
-numbers_where tree tests = record {
+-- the rows of one table that pass some tests, shown in some way
+abbrev pub rows_where : ℕ → List Term → List Term → Query
+rows_where tree tests shown = record {
   from = inner tree end;
   filter = tests;
   group = None;
-  project = col 1 0 ∷ [];
+  project = shown;
   distinct = false;
   collations = [];
   order = [];
@@ -70,15 +73,26 @@ abbrev pub key_tests : TableName → List Term
 key_tests table.Value = is_given 1 0 ∷ []
 key_tests table.History = is_given 1 0 ∷ is_given 2 1 ∷ []
 
-abbrev pub rows_with_key : TableName → Program
-rows_with_key t = record { lets = []; body = numbers_where (tree_of t) (key_tests t) }
+-- the rows with a key, shown in some way
+abbrev pub with_key : TableName → List Term → Program
+with_key t shown = record { lets = []; body = rows_where (tree_of t) (key_tests t) shown }
+
+-- the old number, and then the new row: the same number, and the six columns
+abbrev pub renewal : List Term
+renewal = col 1 0 ∷ col 1 0 ∷ col 0 0 ∷ col 0 1 ∷ col 0 2 ∷ col 0 3 ∷ col 0 4 ∷ col 0 5 ∷ []
+
+abbrev pub RenewalsAreUnderstood : Type 0
+RenewalsAreUnderstood = (t : TableName) → command_of (understood store_schema (renew_text t)) ≡ Update (place_of t) (with_key t renewal)
+
+abbrev pub number_alone : List Term
+number_alone = col 1 0 ∷ []
 
 abbrev pub DropsAreUnderstood : Type 0
-DropsAreUnderstood = (t : TableName) → command_of (understood store_schema (drop_text t)) ≡ Delete (place_of t) (rows_with_key t)
+DropsAreUnderstood = command_of (understood store_schema forget_text) ≡ Delete (place_of table.History) (with_key table.History number_alone)
 
 -- each row of one table
 abbrev pub rows_of : ℕ → Query
-rows_of tree = record (numbers_where tree []) { project = col 1 0 ∷ col 1 1 ∷ col 1 2 ∷ col 1 3 ∷ col 1 4 ∷ col 1 5 ∷ col 1 6 ∷ [] }
+rows_of tree = rows_where tree [] (col 1 0 ∷ col 1 1 ∷ col 1 2 ∷ col 1 3 ∷ col 1 4 ∷ col 1 5 ∷ col 1 6 ∷ [])
 
 abbrev pub names_in : TableName → List (List ℕ)
 names_in table.Value = codes "rowid" ∷ codes "node" ∷ codes "type" ∷ codes "value" ∷ codes "status" ∷ codes "source_time" ∷ codes "server_time" ∷ []

@@ -1,11 +1,12 @@
 -- What is kept, as the rows of the two tables.
-use Rattle.std.specs.Prelude.{ℕ, ℤ, List, [], ◌∷◌, string_bytes, IsUtf8, ⊤, Option, Some, None, ◌<ℤ◌}
+use Rattle.std.specs.Prelude.{ℤ, [], ◌∷◌, string_bytes, IsUtf8, ⊤, Option, Some, None, ◌<ℤ◌}
 use Rattle.sqlite.specs.declared.types.Value.{Value}
 use Rattle.sqlite.specs.declared.types.Value.TheVariants.{Null, Int, Real, Text, Blob}
 use Rattle.sqlite.specs.Order.{Row, column}
 use Rattle.sqlite.specs.Values.{or_null}
 use Rattle.value_store.specs.declared.rows.Scalar.{Scalar}
 use Rattle.value_store.specs.declared.rows.Scalar.TheVariants.{Nothing, Integer, Words, Bytes}
+use Rattle.value_store.specs.declared.rows.Key.{Key}
 use Rattle.value_store.specs.declared.rows.StoredRow.{StoredRow}
 use Rattle.value_store.specs.declared.rows.TableName.{TableName}
 use Rattle.value_store.specs.declared.rows.TableName.TheVariants as table
@@ -29,10 +30,9 @@ abbrev pub row_in : TableName → StoredRow → Row
 row_in table.Value r = Text (string_bytes r.node) ∷ Int r.kind ∷ sql_of r.value ∷ Int r.status ∷ or_null Int r.source_time ∷ or_null Int r.server_time ∷ []
 row_in table.History r = Text (string_bytes r.node) ∷ or_null Int r.source_time ∷ Int r.kind ∷ sql_of r.value ∷ Int r.status ∷ or_null Int r.server_time ∷ []
 
--- what a row of a table is found by
-abbrev pub key_in : TableName → List ℕ → Option ℤ → Row
-key_in table.Value node time = Text node ∷ []
-key_in table.History node time = Text node ∷ or_null Int time ∷ []
+-- what a row of `history` is found by
+abbrev pub key_in : Key → Row
+key_in k = Text (string_bytes k.node) ∷ Int k.time ∷ []
 
 -- the six columns of a row in either file, whose number stands before them
 abbrev pub columns : Row → Row

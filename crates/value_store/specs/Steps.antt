@@ -1,5 +1,5 @@
 -- What one change does to a connection, inside the transaction of its turn.
-use Rattle.std.specs.Prelude.{◌≡◌, List, ℕ, ℤ, [], ◌∷◌, Option, None, true, string_bytes, if◌then◌else◌, IsTrue}
+use Rattle.std.specs.Prelude.{◌≡◌, List, ℕ, ℤ, [], ◌∷◌, Option, None, true, string_bytes, IsTrue}
 use Rattle.sqlite.specs.State.{State, HasCleanDisk}
 use Rattle.sqlite.specs.Tree.{Trees}
 use Rattle.value_store.specs.declared.rows.Change.{Change}
@@ -29,11 +29,12 @@ abbrev pub Adds : TableName → StoredRow → State → State → Type 0
 Adds s r old new =
     IsTrue old.is_open × IsTrue new.in_transaction × (IsStore old.now → HasRoom s r old.now.trees → IsStore new.now × IsAfter (change.Put s r ∷ []) old.now.trees new.now.trees)
 
--- nothing has the key any more, and all else is as it was
-abbrev pub Loses : TableName → List ℕ → Option ℤ → State → State → Type 0
-Loses s node time old new =
-    IsTrue old.is_open × IsTrue new.in_transaction × (IsStore old.now → IsStore new.now
-    × ((t : TableName) (n : List ℕ) (at : Option ℤ) → rows_at new.now.trees t n at ≡ (if is_key s node time t n at then None else rows_at old.now.trees t n at)))
+-- As many rows as are told had the key. Where none had, nothing is changed; where one had, the new row stands in its place
+abbrev pub Renews : TableName → StoredRow → ℕ → State → State → Type 0
+Renews s r count old new =
+    IsTrue old.is_open × IsTrue new.in_transaction
+    × (count ≡ 0 → IsStore old.now → IsStore new.now × HasRoom s r new.now.trees × IsAfter [] old.now.trees new.now.trees)
+    × (count ≡ 1 → IsStore old.now → IsStore new.now × IsAfter (change.Put s r ∷ []) old.now.trees new.now.trees)
 
 -- nothing was committed
 abbrev pub KeepsCommit : State → State → Type 0

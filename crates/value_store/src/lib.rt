@@ -15,7 +15,7 @@
 //! `HasCleanDisk`; what a crash leaves is what the next start finds (`specs/Restarting`).
 #![tactic(auto)]
 
-ghost use Rattle.value_store.specs.Laws.{TablesAreUnderstood, AddsAreUnderstood, DropsAreUnderstood, ReadsAreUnderstood};
+ghost use Rattle.value_store.specs.Laws.{TablesAreUnderstood, AddsAreUnderstood, RenewalsAreUnderstood, DropsAreUnderstood, ReadsAreUnderstood};
 
 mod changes;
 mod fault;
@@ -42,7 +42,12 @@ pub fn adds_are_understood()
     ensures { AddsAreUnderstood }
 {}
 
-/// The texts of DELETE take out the rows with the key that is given.
+/// The texts of UPDATE put a row of six columns in the place of those with its key, under their numbers.
+pub fn renewals_are_understood()
+    ensures { RenewalsAreUnderstood }
+{}
+
+/// The text of DELETE takes out of the histories the rows with the key that is given.
 pub fn drops_are_understood()
     ensures { DropsAreUnderstood }
 {}

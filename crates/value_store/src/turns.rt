@@ -1,18 +1,17 @@
 //! One transaction for the changes of a turn.
 
-ghost use Rattle.std.specs.Prelude.{◌≡◌, string_bytes, None, OnOk, OnErr, IsTrue};
+ghost use Rattle.std.specs.Prelude.{◌≡◌, IfOk, OnOk, OnErr, IsTrue};
 ghost use Rattle.sqlite.specs.State.{HasCleanDisk, Survives};
 ghost use Rattle.sqlite.specs.Held.{state};
 ghost use Rattle.sqlite.specs.Values.{bound};
 ghost use Rattle.value_store.specs.Rows.{row_in, key_in};
-ghost use Rattle.value_store.specs.Laws.{add_text as add_text_spec};
+ghost use Rattle.value_store.specs.Laws.{add_text as add_text_spec, renew_text as renew_text_spec};
 ghost use Rattle.value_store.specs.Model.{IsAfter};
-ghost use Rattle.value_store.specs.Steps.{IsReady, IsSettled, Makes, Adds, Loses, KeepsCommit};
+ghost use Rattle.value_store.specs.Steps.{IsReady, IsSettled, Makes, Adds, Renews, KeepsCommit};
 ghost use Rattle.value_store.specs.declared.rows.Change.TheVariants as change;
-ghost use Rattle.value_store.specs.declared.rows.TableName.TheVariants as tables;
 
 use crate::fault::Fault;
-use crate::rows::{Change, StoredRow, TableName};
+use crate::rows::{Change, Key, StoredRow, TableName};
 use sqlite::types::{ToSql, ValueRef};
 use sqlite::{Alter, Connection, Error, ErrorCode, Transaction};
 
@@ -40,16 +39,10 @@ fn row_columns<'a>(table: TableName, row: &'a StoredRow) -> [ValueRef<'a>; 6]
     }
 }
 
-fn node_column<'a>(node: &'a String) -> [ValueRef<'a>; 1]
-    ensures { bound result ≡ key_in tables.Value (string_bytes node.now) None }
+fn key_columns<'a>(key: &'a Key) -> [ValueRef<'a>; 2]
+    ensures { bound result ≡ key_in key.now }
 {
-    [node.to_sql()]
-}
-
-fn key_columns<'a>(node: &'a String, time: &'a Option<i64>) -> [ValueRef<'a>; 2]
-    ensures { bound result ≡ key_in tables.History (string_bytes node.now) time.now }
-{
-    [node.to_sql(), time.to_sql()]
+    [key.node.to_sql(), key.time.to_sql()]
 }
 
 // The text that adds a row to a table.
@@ -62,6 +55,20 @@ fn add_text(table: TableName) -> &'static str
         }
         TableName::History => {
             "INSERT INTO history (node, time, type, value, status, server_time) VALUES (?1, ?2, ?3, ?4, ?5, ?6)"
+        }
+    }
+}
+
+// The text that puts a row of a table in the place of the one that has its key.
+fn renew_text(table: TableName) -> &'static str
+    ensures { result.now ≡ renew_text_spec table }
+{
+    match table {
+        TableName::Value => {
+            "UPDATE value SET node = ?1, type = ?2, value = ?3, status = ?4, source_time = ?5, server_time = ?6 WHERE node = ?1"
+        }
+        TableName::History => {
+            "UPDATE history SET node = ?1, time = ?2, type = ?3, value = ?4, status = ?5, server_time = ?6 WHERE node = ?1 AND time = ?2"
         }
     }
 }
@@ -79,27 +86,21 @@ fn add_row<S: Alter>(
     turn.execute(add_text(table), &row_columns(table, row))
 }
 
-// In `value` the node alone is the key.
-fn drop_row<S: Alter>(
+// Says how many rows had the key: none, or the one in whose place the row stands now.
+fn renew_row<S: Alter>(
     turn: &mut Transaction<'_, S>,
     table: TableName,
-    node: &String,
-    time: Option<i64>,
+    row: &StoredRow,
 ) -> Result<usize, Error>
     ensures same_reference { turn.new.conn.ghost_name ≡ turn.old.conn.ghost_name }
-    ensures made { HasCleanDisk (state S.Store turn.new.conn.now) → IsTrue (state S.Store turn.old.conn.now).in_transaction → OnOk result (Loses table (string_bytes node.now) time (state S.Store turn.old.conn.now) (state S.Store turn.new.conn.now)) }
+    ensures made { HasCleanDisk (state S.Store turn.new.conn.now) → IsTrue (state S.Store turn.old.conn.now).in_transaction → IfOk result (λ count. Renews table row.now count (state S.Store turn.old.conn.now) (state S.Store turn.new.conn.now)) }
     ensures kept { HasCleanDisk (state S.Store turn.new.conn.now) → IsTrue (state S.Store turn.old.conn.now).in_transaction → KeepsCommit (state S.Store turn.old.conn.now) (state S.Store turn.new.conn.now) }
     ensures survives { Survives (state S.Store turn.old.conn.now) (state S.Store turn.new.conn.now) (λ _. ⊥) }
 {
-    match table {
-        TableName::Value => turn.execute("DELETE FROM value WHERE node = ?1", &node_column(node)),
-        TableName::History => turn.execute(
-            "DELETE FROM history WHERE node = ?1 AND time = ?2",
-            &key_columns(node, &time),
-        ),
-    }
+    turn.execute(renew_text(table), &row_columns(table, row))
 }
 
+// A row in the place of the one that has its key, or one more. That two have a key no database of ours lets be.
 fn put_row<S: Alter>(
     turn: &mut Transaction<'_, S>,
     table: TableName,
@@ -110,8 +111,23 @@ fn put_row<S: Alter>(
     ensures kept { HasCleanDisk (state S.Store turn.new.conn.now) → IsTrue (state S.Store turn.old.conn.now).in_transaction → KeepsCommit (state S.Store turn.old.conn.now) (state S.Store turn.new.conn.now) }
     ensures survives { Survives (state S.Store turn.old.conn.now) (state S.Store turn.new.conn.now) (λ _. ⊥) }
 {
-    drop_row(turn, table, &row.node, row.source_time)?;
-    add_row(turn, table, row)
+    match renew_row(turn, table, row)? {
+        0 => add_row(turn, table, row),
+        1 => Ok(1),
+        _ => Err(Error::SqliteFailure(ErrorCode::DatabaseCorrupt)),
+    }
+}
+
+fn forget_row<S: Alter>(turn: &mut Transaction<'_, S>, key: &Key) -> Result<usize, Error>
+    ensures same_reference { turn.new.conn.ghost_name ≡ turn.old.conn.ghost_name }
+    ensures made { HasCleanDisk (state S.Store turn.new.conn.now) → IsTrue (state S.Store turn.old.conn.now).in_transaction → OnOk result (Makes (change.Forget key.now) (state S.Store turn.old.conn.now) (state S.Store turn.new.conn.now)) }
+    ensures kept { HasCleanDisk (state S.Store turn.new.conn.now) → IsTrue (state S.Store turn.old.conn.now).in_transaction → KeepsCommit (state S.Store turn.old.conn.now) (state S.Store turn.new.conn.now) }
+    ensures survives { Survives (state S.Store turn.old.conn.now) (state S.Store turn.new.conn.now) (λ _. ⊥) }
+{
+    turn.execute(
+        "DELETE FROM history WHERE node = ?1 AND time = ?2",
+        &key_columns(key),
+    )
 }
 
 fn make<S: Alter>(turn: &mut Transaction<'_, S>, change: &Change) -> Result<usize, Error>
@@ -122,7 +138,7 @@ fn make<S: Alter>(turn: &mut Transaction<'_, S>, change: &Change) -> Result<usiz
 {
     match change {
         Change::Put(table, row) => put_row(turn, *table, row),
-        Change::Forget(key) => drop_row(turn, TableName::History, &key.node, Some(key.time)),
+        Change::Forget(key) => forget_row(turn, key),
     }
 }
 
