@@ -125,8 +125,8 @@ pub(crate) fn text_or(
     Ok(Text::from_str(alloc, text)?)
 }
 
-// The key is one of these.
-fn is_one_of(keys: &[&str], key: &str) -> bool
+/// The key is one of these.
+pub(crate) fn is_one_of(keys: &[&str], key: &str) -> bool
     ensures { result ≡ list_any (λ k. bytes_eq k.now key.now) keys.now }
 {
     keys.iter().any(|known| *known == key)

@@ -1,6 +1,9 @@
 //! An entry of the list `node`: the node, and the references that come with it.
 
-ghost use Rattle.std.specs.Prelude.{◌≡◌, ◌≤◌, true, codes, None, Err, IfErr, IfOk, IfSome};
+ghost use Rattle.std.specs.Prelude.{◌≡◌, ◌≤◌, ◌||◌, true, codes, [], map, string_bytes, None, Err, IfErr, IfOk, IfSome};
+ghost use Rattle.std.specs.List.{list_all, list_any};
+ghost use Rattle.std.specs.Map.{keys_of as table_keys};
+ghost use Rattle.std.specs.Str.{bytes_eq};
 ghost use Rattle.toml.specs.Data.{as_table};
 ghost use Rattle.toml.specs.View.{table_view, view};
 ghost use Rattle.ua_space.specs.Variables.{is_of};
@@ -8,15 +11,15 @@ ghost use Rattle.ua_types.specs.declared.node_class.NodeClass.TheVariants as cla
 ghost use Rattle.ua_types.specs.Answers.{Gives};
 ghost use Rattle.node_loader.specs.declared.fault.Cause.TheVariants as Cause;
 ghost use Rattle.node_loader.specs.declared.fault.Cause.TheVariants.{Memory};
-ghost use Rattle.node_loader.specs.Keys.{only, required_word};
+ghost use Rattle.node_loader.specs.Keys.{is_among, only, required_word};
 ghost use Rattle.ua_types.specs.DataValues.{value_since};
 ghost use Rattle.ua_types.specs.ValueTypes.{type_number};
-ghost use Rattle.node_loader.specs.Node.{class_of, keys_of, names_of, place_of, parent_triple, definition_triple, entry_from, type_at, rank_of, form_of, plain_kind, variable_with, variable_of, object_of, variable_node_of, object_type_of, variable_type_of, reference_type_of, data_type_of, kind_of, rest_of, node_of, entry_of};
+ghost use Rattle.node_loader.specs.Node.{class_of, common_keys, keys_of, names_of, place_of, parent_triple, definition_triple, entry_from, type_at, rank_of, form_of, plain_kind, variable_with, variable_of, object_of, variable_node_of, object_type_of, variable_type_of, reference_type_of, data_type_of, kind_of, rest_of, node_of, entry_of};
 
 use crate::fault::Cause;
 use crate::ids::{id_at, id_if_any, id_or, standard_id};
 use crate::keys::{
-    boolean_at, number_at, only, required_text, required_word, text_or, text_or_null,
+    boolean_at, is_one_of, number_at, required_text, required_word, text_or, text_or_null,
 };
 use crate::past::{Setting, history};
 use crate::value::{Form, ranked_value, type_of};
@@ -58,38 +61,59 @@ fn class_of(word: &str) -> Result<NodeClass, Cause>
     Err(Cause::OutOfRange)
 }
 
+// Whether each node may have the key, whatever its class.
+fn is_common(key: &str) -> bool
+    ensures { result ≡ is_among (common_keys []) key.now }
+{
+    is_one_of(
+        &[
+            "id",
+            "class",
+            "name",
+            "name_ns",
+            "display",
+            "description",
+            "parent",
+            "via",
+        ],
+        key,
+    )
+}
+
+fn is_known(others: &[&str], key: &str) -> bool
+    ensures { result ≡ is_among (common_keys (map (λ k. k.now) others.now)) key.now }
+{
+    is_common(key) || is_one_of(others, key)
+}
+
+fn all_known(others: &[&str], table: &Table) -> bool
+    ensures { result ≡ list_all (λ key. is_among (common_keys (map (λ k. k.now) others.now)) (string_bytes key)) (table_keys table.now.entries) }
+{
+    table.keys().all(|key| is_known(others, key.as_str()))
+}
+
+// The part has no other keys than those that each node may have, and these.
+#[tactic(auto, using(crate::proofs::Tables::all_keys_are))]
+fn only_with(others: &[&str], table: &Table) -> Result<(), Cause>
+    ensures { result ≡ only (common_keys (map (λ k. k.now) others.now)) (table_view table.now) }
+{
+    if all_known(others, table) {
+        Ok(())
+    } else {
+        Err(Cause::UnknownKey)
+    }
+}
+
 fn variable_known(version: Version, table: &Table) -> Result<(), Cause>
     ensures { result ≡ only (keys_of version classes.Variable) (table_view table.now) }
 {
     match version {
-        Version::One => only(
-            &[
-                "id",
-                "class",
-                "name",
-                "name_ns",
-                "display",
-                "description",
-                "parent",
-                "via",
-                "definition",
-                "type",
-                "value",
-                "access",
-                "historizing",
-            ],
+        Version::One => only_with(
+            &["definition", "type", "value", "access", "historizing"],
             table,
         ),
-        Version::Two => only(
+        Version::Two => only_with(
             &[
-                "id",
-                "class",
-                "name",
-                "name_ns",
-                "display",
-                "description",
-                "parent",
-                "via",
                 "definition",
                 "type",
                 "list",
@@ -107,37 +131,8 @@ fn variable_type_known(version: Version, table: &Table) -> Result<(), Cause>
     ensures { result ≡ only (keys_of version classes.VariableType) (table_view table.now) }
 {
     match version {
-        Version::One => only(
-            &[
-                "id",
-                "class",
-                "name",
-                "name_ns",
-                "display",
-                "description",
-                "parent",
-                "via",
-                "type",
-                "abstract",
-            ],
-            table,
-        ),
-        Version::Two => only(
-            &[
-                "id",
-                "class",
-                "name",
-                "name_ns",
-                "display",
-                "description",
-                "parent",
-                "via",
-                "type",
-                "list",
-                "abstract",
-            ],
-            table,
-        ),
+        Version::One => only_with(&["type", "abstract"], table),
+        Version::Two => only_with(&["type", "list", "abstract"], table),
     }
 }
 
@@ -146,66 +141,11 @@ fn known(version: Version, class: NodeClass, table: &Table) -> Result<(), Cause>
     ensures { result ≡ only (keys_of version class) (table_view table.now) }
 {
     match class {
-        NodeClass::Object => only(
-            &[
-                "id",
-                "class",
-                "name",
-                "name_ns",
-                "display",
-                "description",
-                "parent",
-                "via",
-                "definition",
-            ],
-            table,
-        ),
+        NodeClass::Object => only_with(&["definition"], table),
         NodeClass::Variable => variable_known(version, table),
-        NodeClass::ObjectType => only(
-            &[
-                "id",
-                "class",
-                "name",
-                "name_ns",
-                "display",
-                "description",
-                "parent",
-                "via",
-                "abstract",
-            ],
-            table,
-        ),
+        NodeClass::ObjectType | NodeClass::DataType => only_with(&["abstract"], table),
         NodeClass::VariableType => variable_type_known(version, table),
-        NodeClass::ReferenceType => only(
-            &[
-                "id",
-                "class",
-                "name",
-                "name_ns",
-                "display",
-                "description",
-                "parent",
-                "via",
-                "abstract",
-                "symmetric",
-                "inverse",
-            ],
-            table,
-        ),
-        NodeClass::DataType => only(
-            &[
-                "id",
-                "class",
-                "name",
-                "name_ns",
-                "display",
-                "description",
-                "parent",
-                "via",
-                "abstract",
-            ],
-            table,
-        ),
+        NodeClass::ReferenceType => only_with(&["abstract", "symmetric", "inverse"], table),
     }
 }
 
