@@ -27,7 +27,7 @@ use Rattle.value_store.specs.declared.rows.Key.{Key}
 use Rattle.value_store.specs.declared.rows.StoredRow.{StoredRow}
 use Rattle.value_store.specs.declared.rows.TableName.{TableName}
 use Rattle.value_store.specs.declared.rows.TableName.TheVariants as table
-use Rattle.value_store.specs.declared.rows.Change.TheVariants as change
+use Rattle.value_store.specs.declared.rows.RowChange.TheVariants as change
 use Rattle.value_store.specs.Tables.{store_schema}
 use Rattle.value_store.specs.Laws.{terms, add_text, renew_text, forget_text, place_of, with_key, renewal, number_alone}
 use Rattle.value_store.specs.Rows.{row_in, key_in, columns}

@@ -2,19 +2,19 @@
 use Rattle.std.proofs.Common.{◌≡◌, ℕ, ℤ, List, [], ◌∷◌, ◌++◌, cond, Option, Some, None, Ok, Err, Result, OnOk, OnErr, IfErr, sym, ap, ◌∙◌, string_bytes, fold}
 use Rattle.std.proofs.lemmas.List.Sums.{fold_push}
 use Rattle.sqlite.specs.Tree.{Trees}
-use Rattle.value_store.specs.declared.rows.Change.{Change}
-use Rattle.value_store.specs.declared.rows.Change.TheVariants as change
+use Rattle.value_store.specs.declared.rows.RowChange.{RowChange}
+use Rattle.value_store.specs.declared.rows.RowChange.TheVariants as change
 use Rattle.value_store.specs.declared.rows.TableName.{TableName}
 use Rattle.value_store.specs.declared.rows.TableName.TheVariants as table
 use Rattle.value_store.specs.Rows.{row_in}
 use Rattle.value_store.specs.Model.{Rows, IsAfter, is_key, rows_at, rows_with}
 
-alike_with : (it : Change) (f g : Rows) → ((t : TableName) (n : List ℕ) (at : Option ℤ) → f t n at ≡ g t n at) → (t : TableName) (n : List ℕ) (at : Option ℤ) → rows_with f it t n at ≡ rows_with g it t n at
+alike_with : (it : RowChange) (f g : Rows) → ((t : TableName) (n : List ℕ) (at : Option ℤ) → f t n at ≡ g t n at) → (t : TableName) (n : List ℕ) (at : Option ℤ) → rows_with f it t n at ≡ rows_with g it t n at
 alike_with (change.Put s r) f g same t n at = ap (cond (is_key s (string_bytes r.node) r.source_time t n at) (Some (row_in s r))) (same t n at)
 alike_with (change.Forget k) f g same t n at = ap (cond (is_key table.History (string_bytes k.node) (Some k.time) t n at) None) (same t n at)
 
 -- one change more
-pub after_more : (turn : List Change) (it : Change) (a b c : Trees) → IsAfter turn a b → IsAfter (it ∷ []) b c → IsAfter (turn ++ it ∷ []) a c
+pub after_more : (turn : List RowChange) (it : RowChange) (a b c : Trees) → IsAfter turn a b → IsAfter (it ∷ []) b c → IsAfter (turn ++ it ∷ []) a c
 after_more turn it a b c many one t n at =
     one t n at ∙ (alike_with it (rows_at b) (fold rows_with (rows_at a) turn) many t n at ∙ ap (λ (f : Rows). f t n at) (sym (fold_push rows_with (rows_at a) turn it)))
 

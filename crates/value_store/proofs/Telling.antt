@@ -21,8 +21,8 @@ use Rattle.sqlite.specs.Tree.{Trees}
 use Rattle.value_store.specs.declared.rows.StoredRow.{StoredRow}
 use Rattle.value_store.specs.declared.rows.TableName.TheVariants as table
 use Rattle.value_store.specs.declared.rows.Key.{Key}
-use Rattle.value_store.specs.declared.rows.Change.{Change}
-use Rattle.value_store.specs.declared.rows.Change.TheVariants as change
+use Rattle.value_store.specs.declared.rows.RowChange.{RowChange}
+use Rattle.value_store.specs.declared.rows.RowChange.TheVariants as change
 use Rattle.value_store.specs.Rows.{row_in}
 use Rattle.value_store.specs.Forms.{said_of, said_in, time_said}
 use Rattle.value_store.specs.Model.{Rows, IsAfter, is_time, rows_at, rows_with}
@@ -129,12 +129,12 @@ module _ (id : NodeId) (again : id_of (id_text id) ≡ Ok id) (rows : Rows) wher
 
 -- ---- more changes
 
-pub grows_push : (B : Kept → Kept → Type 0) (c : Change) → ((rows : Rows) → B (kept_by rows) (kept_by (rows_with rows c))) → (old new : List Change) → new ≡ old ++ c ∷ [] → Grows B old new
+pub grows_push : (B : Kept → Kept → Type 0) (c : RowChange) → ((rows : Rows) → B (kept_by rows) (kept_by (rows_with rows c))) → (old new : List RowChange) → new ≡ old ++ c ∷ [] → Grows B old new
 grows_push B c each old new is rows =
-    subst (λ (l : List Change). B (kept_after rows old) (kept_after rows l)) (sym is)
+    subst (λ (l : List RowChange). B (kept_after rows old) (kept_after rows l)) (sym is)
     (subst (λ (x : Rows). B (kept_after rows old) (kept_by x)) (sym (fold_push rows_with rows old c)) (each (fold rows_with rows old)))
 
-pub history_stays : (id : NodeId) (become : Past → Past) → ((past : Past) (time : ℤ) → past time ≡ become past time) → (changes : List Change) → Grows (HasHistory id become) changes changes
+pub history_stays : (id : NodeId) (become : Past → Past) → ((past : Past) (time : ℤ) → past time ≡ become past time) → (changes : List RowChange) → Grows (HasHistory id become) changes changes
 history_stays id become same changes rows = record {
   values = λ other. refl;
   histories = λ other time.
@@ -203,7 +203,7 @@ alike_then a b c first second = record { values = λ id. first.values id ∙ sec
 pub changes_none : AreChanges [] []
 changes_none rows = record { values = λ id. refl; histories = λ id time. refl }
 
-pub changes_more : (done : List Stored) (s : Stored) (old new : List Change) → AreChanges done old → Grows (λ a b. AreAlike (with_stored a s) b) old new → AreChanges (done ++ s ∷ []) new
+pub changes_more : (done : List Stored) (s : Stored) (old new : List RowChange) → AreChanges done old → Grows (λ a b. AreAlike (with_stored a s) b) old new → AreChanges (done ++ s ∷ []) new
 changes_more done s old new was grows rows =
     let before = with_all_stored (kept_by rows) done in
     let more = fold_push with_stored (kept_by rows) done s in
@@ -212,7 +212,7 @@ changes_more done s old new was grows rows =
 
 -- ---- the tables
 
-pub has_all : (stored : List Stored) (changes : List Change) (old new : Trees) → AreChanges stored changes → IsAfter changes old new → HasAll stored old new
+pub has_all : (stored : List Stored) (changes : List RowChange) (old new : Trees) → AreChanges stored changes → IsAfter changes old new → HasAll stored old new
 has_all stored changes old new are after =
     alike_then (with_all_stored (kept_at old) stored) (kept_after (rows_at old) changes) (kept_at new) (are (rows_at old)) (record {
       values = λ id. ap (λ o. cond (is_readable id) (option_and_then (said_in table.Value) o) None) (sym (after table.Value (id_text id) None));

@@ -9,7 +9,7 @@ use Rattle.server_messages.specs.Kept.{Kept, Past, is_same, with_all_stored, Are
 use Rattle.server_messages.specs.declared.stored.Stored.{Stored}
 use Rattle.sqlite.specs.State.{State, HasCleanDisk}
 use Rattle.sqlite.specs.Tree.{Trees}
-use Rattle.value_store.specs.declared.rows.Change.{Change}
+use Rattle.value_store.specs.declared.rows.RowChange.{RowChange}
 use Rattle.value_store.specs.declared.rows.TableName.TheVariants as table
 use Rattle.value_store.specs.Forms.{said_in}
 use Rattle.value_store.specs.Model.{Rows, rows_at, rows_with}
@@ -42,7 +42,7 @@ MayFind s found = HasCleanDisk s × (trees : Trees) × s.may_leave trees × AreA
 
 -- ---- what changes of rows mean
 
-abbrev pub kept_after : Rows → List Change → Kept
+abbrev pub kept_after : Rows → List RowChange → Kept
 kept_after rows changes = kept_by (fold rows_with rows changes)
 
 -- the second has the value, and all else as the first
@@ -56,11 +56,11 @@ pub record HasHistory (id : NodeId) (become : Past → Past) (a b : Kept) : Type
   pub histories : (other : NodeId) (time : ℤ) → b.histories other time ≡ (if is_same id other then become (a.histories other) time else a.histories other time)
 
 -- whatever was kept before, what some more changes make of it
-abbrev pub Grows : (Kept → Kept → Type 0) → List Change → List Change → Type 0
+abbrev pub Grows : (Kept → Kept → Type 0) → List RowChange → List RowChange → Type 0
 Grows Becomes old new = (rows : Rows) → Becomes (kept_after rows old) (kept_after rows new)
 
 -- the changes make of whatever was kept what the values say
-abbrev pub AreChanges : List Stored → List Change → Type 0
+abbrev pub AreChanges : List Stored → List RowChange → Type 0
 AreChanges stored changes = (rows : Rows) → AreAlike (with_all_stored (kept_by rows) stored) (kept_after rows changes)
 
 -- the second has what the first has, with all of the values

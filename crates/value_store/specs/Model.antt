@@ -11,8 +11,8 @@ use Rattle.sqlite.specs.Effect.{Database}
 use Rattle.value_store.specs.declared.rows.StoredRow.{StoredRow}
 use Rattle.value_store.specs.declared.rows.TableName.{TableName}
 use Rattle.value_store.specs.declared.rows.TableName.TheVariants as table
-use Rattle.value_store.specs.declared.rows.Change.{Change}
-use Rattle.value_store.specs.declared.rows.Change.TheVariants as change
+use Rattle.value_store.specs.declared.rows.RowChange.{RowChange}
+use Rattle.value_store.specs.declared.rows.RowChange.TheVariants as change
 use Rattle.value_store.specs.Rows.{row_in, columns}
 use Rattle.value_store.specs.Tables.{store_schema}
 
@@ -63,12 +63,12 @@ is_key table.Value node time table.Value n at = bytes_eq node n
 is_key table.History node time table.History n at = bytes_eq node n && is_time time at
 is_key s node time t n at = false
 
-abbrev pub rows_with : Rows → Change → Rows
+abbrev pub rows_with : Rows → RowChange → Rows
 rows_with rows (change.Put s r) t n at = if is_key s (string_bytes r.node) r.source_time t n at then Some (row_in s r) else rows t n at
 rows_with rows (change.Forget k) t n at = if is_key table.History (string_bytes k.node) (Some k.time) t n at then None else rows t n at
 
 -- the second is the first with the changes made, one after the other
-abbrev pub IsAfter : List Change → Trees → Trees → Type 0
+abbrev pub IsAfter : List RowChange → Trees → Trees → Type 0
 IsAfter turn old new = (t : TableName) (n : List ℕ) (at : Option ℤ) → rows_at new t n at ≡ fold rows_with (rows_at old) turn t n at
 
 -- ---- what is read back

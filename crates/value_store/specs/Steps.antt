@@ -2,10 +2,10 @@
 use Rattle.std.specs.Prelude.{◌≡◌, List, ℕ, ℤ, [], ◌∷◌, Option, None, true, string_bytes, IsTrue}
 use Rattle.sqlite.specs.State.{State, HasCleanDisk}
 use Rattle.sqlite.specs.Tree.{Trees}
-use Rattle.value_store.specs.declared.rows.Change.{Change}
+use Rattle.value_store.specs.declared.rows.RowChange.{RowChange}
 use Rattle.value_store.specs.declared.rows.StoredRow.{StoredRow}
 use Rattle.value_store.specs.declared.rows.TableName.{TableName}
-use Rattle.value_store.specs.declared.rows.Change.TheVariants as change
+use Rattle.value_store.specs.declared.rows.RowChange.TheVariants as change
 use Rattle.value_store.specs.Model.{IsStore, IsAfter, rows_at, is_key}
 
 -- while the file can be used, it has the two tables, with their rows numbered
@@ -17,7 +17,7 @@ abbrev pub IsSettled : State → Type 0
 IsSettled s = (trees : Trees) → HasCleanDisk s → IsTrue s.is_open → s.may_leave trees → trees ≡ s.now.trees
 
 -- the file could be used, and the change is made and not committed
-abbrev pub Makes : Change → State → State → Type 0
+abbrev pub Makes : RowChange → State → State → Type 0
 Makes change old new =
     IsTrue old.is_open × IsTrue new.in_transaction × (IsStore old.now → IsStore new.now × IsAfter (change ∷ []) old.now.trees new.now.trees)
 

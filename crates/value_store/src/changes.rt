@@ -6,29 +6,29 @@ ghost use Rattle.value_store.specs.Keeping.{HasValue, HasHistory, Grows, AreChan
 
 use crate::fault::Fault;
 use crate::forms::{key_of, row_of};
-use crate::rows::{Change, TableName};
+use crate::rows::{RowChange, TableName};
 use server_messages::Stored;
 use std::alloc::Global;
 use ua_types::{Moment, NodeId};
 
 // The variable has the value.
-fn push_value(alloc: Global, stored: &Stored, changes: &mut Vec<Change>) -> Result<(), Fault>
+fn push_value(alloc: Global, stored: &Stored, changes: &mut Vec<RowChange>) -> Result<(), Fault>
     ensures { OnOk result (Grows (HasValue stored.now.node_id stored.now.value) changes.old.items changes.new.items) }
 {
     let row = row_of(alloc, &stored.node_id, &stored.value)?;
-    changes.push(Change::Put(TableName::Value, row))?;
+    changes.push(RowChange::Put(TableName::Value, row))?;
     Ok(())
 }
 
 // The variable had the value at its source's time.
-fn push_past(alloc: Global, stored: &Stored, changes: &mut Vec<Change>) -> Result<(), Fault>
+fn push_past(alloc: Global, stored: &Stored, changes: &mut Vec<RowChange>) -> Result<(), Fault>
     ensures { OnOk result (Grows (HasHistory stored.now.node_id (put_at stored.now.value.source_time stored.now.value)) changes.old.items changes.new.items) }
 {
     match stored.value.source_time {
         None => Ok(()),
         Some(_) => {
             let row = row_of(alloc, &stored.node_id, &stored.value)?;
-            changes.push(Change::Put(TableName::History, row))?;
+            changes.push(RowChange::Put(TableName::History, row))?;
             Ok(())
         }
     }
@@ -39,7 +39,7 @@ fn push_dropped(
     alloc: Global,
     id: &NodeId,
     dropped: Option<Moment>,
-    changes: &mut Vec<Change>,
+    changes: &mut Vec<RowChange>,
 ) -> Result<(), Fault>
     ensures { OnOk result (Grows (HasHistory id.now (dropped_at dropped)) changes.old.items changes.new.items) }
 {
@@ -47,13 +47,13 @@ fn push_dropped(
         None => Ok(()),
         Some(time) => {
             let key = key_of(alloc, id, time)?;
-            changes.push(Change::Forget(key))?;
+            changes.push(RowChange::Forget(key))?;
             Ok(())
         }
     }
 }
 
-fn push_all(alloc: Global, stored: &Stored, changes: &mut Vec<Change>) -> Result<(), Fault>
+fn push_all(alloc: Global, stored: &Stored, changes: &mut Vec<RowChange>) -> Result<(), Fault>
     ensures { OnOk result (Grows (λ a b. AreAlike (with_stored a stored.now) b) changes.old.items changes.new.items) }
 {
     push_value(alloc, stored, changes)?;
@@ -65,7 +65,7 @@ fn push_all(alloc: Global, stored: &Stored, changes: &mut Vec<Change>) -> Result
 }
 
 /// The changes of rows that keep these, in their order.
-pub fn changes_of(alloc: Global, stored: &[Stored]) -> Result<Vec<Change>, Fault>
+pub fn changes_of(alloc: Global, stored: &[Stored]) -> Result<Vec<RowChange>, Fault>
     ensures { IfOk result (λ changes. AreChanges stored.now changes.items) }
 {
     let mut changes = Vec::new(alloc);

@@ -8,10 +8,10 @@ ghost use Rattle.value_store.specs.Rows.{row_in, key_in};
 ghost use Rattle.value_store.specs.Laws.{add_text as add_text_spec, renew_text as renew_text_spec};
 ghost use Rattle.value_store.specs.Model.{IsAfter};
 ghost use Rattle.value_store.specs.Steps.{IsReady, IsSettled, Makes, Adds, Renews, KeepsCommit};
-ghost use Rattle.value_store.specs.declared.rows.Change.TheVariants as change;
+ghost use Rattle.value_store.specs.declared.rows.RowChange.TheVariants as change;
 
 use crate::fault::Fault;
-use crate::rows::{Change, Key, StoredRow, TableName};
+use crate::rows::{Key, RowChange, StoredRow, TableName};
 use sqlite::types::{ToSql, ValueRef};
 use sqlite::{Alter, Connection, Error, ErrorCode, Transaction};
 
@@ -130,20 +130,20 @@ fn forget_row<S: Alter>(turn: &mut Transaction<'_, S>, key: &Key) -> Result<usiz
     )
 }
 
-fn make<S: Alter>(turn: &mut Transaction<'_, S>, change: &Change) -> Result<usize, Error>
+fn make<S: Alter>(turn: &mut Transaction<'_, S>, change: &RowChange) -> Result<usize, Error>
     ensures same_reference { turn.new.conn.ghost_name ≡ turn.old.conn.ghost_name }
     ensures made { HasCleanDisk (state S.Store turn.new.conn.now) → IsTrue (state S.Store turn.old.conn.now).in_transaction → OnOk result (Makes change.now (state S.Store turn.old.conn.now) (state S.Store turn.new.conn.now)) }
     ensures kept { HasCleanDisk (state S.Store turn.new.conn.now) → IsTrue (state S.Store turn.old.conn.now).in_transaction → KeepsCommit (state S.Store turn.old.conn.now) (state S.Store turn.new.conn.now) }
     ensures survives { Survives (state S.Store turn.old.conn.now) (state S.Store turn.new.conn.now) (λ _. ⊥) }
 {
     match change {
-        Change::Put(table, row) => put_row(turn, *table, row),
-        Change::Forget(key) => forget_row(turn, key),
+        RowChange::Put(table, row) => put_row(turn, *table, row),
+        RowChange::Forget(key) => forget_row(turn, key),
     }
 }
 
 // Makes all changes in one transaction.
-fn make_all<S: Alter>(conn: &mut Connection<S>, turn: &[Change]) -> Result<(), Error>
+fn make_all<S: Alter>(conn: &mut Connection<S>, turn: &[RowChange]) -> Result<(), Error>
     requires ready { IsReady (state S.Store conn.old) }
     requires settled { IsSettled (state S.Store conn.old) }
     ensures ready { IsReady (state S.Store conn.new) }
@@ -167,7 +167,7 @@ fn make_all<S: Alter>(conn: &mut Connection<S>, turn: &[Change]) -> Result<(), E
 /// At any moment of the call a crash leaves what was there before, or all of them, and after `Ok` all of them, since they are committed.
 /// After an `Err` nothing of the turn is there, and the next turn may be kept, unless the database is closed: then each later call
 /// fails, and the file has what was committed.
-pub fn keep<S: Alter>(conn: &mut Connection<S>, turn: &[Change]) -> Result<(), Fault>
+pub fn keep<S: Alter>(conn: &mut Connection<S>, turn: &[RowChange]) -> Result<(), Fault>
     requires ready { IsReady (state S.Store conn.old) }
     requires settled { IsSettled (state S.Store conn.old) }
     ensures ready { IsReady (state S.Store conn.new) }

@@ -2,7 +2,7 @@ use Rattle.std.proofs.Common.{Option, Some, sym, subst}
 use Rattle.ua_types.specs.declared.moment.Moment.{Moment}
 use Rattle.server_messages.specs.Kept.{dropped_at}
 use Rattle.value_store.specs.Keeping.{HasHistory, Grows}
-use Rattle.value_store.specs.declared.rows.Change.TheVariants as change
+use Rattle.value_store.specs.declared.rows.RowChange.TheVariants as change
 use Rattle.value_store.proofs.Telling.{grows_push, has_dropped}
 use Rattle.value_store.proofs.changes.push_dropped.Goals as goal
 

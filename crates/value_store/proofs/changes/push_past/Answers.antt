@@ -1,6 +1,6 @@
 use Rattle.server_messages.specs.Kept.{put_at}
 use Rattle.value_store.specs.Keeping.{HasHistory}
-use Rattle.value_store.specs.declared.rows.Change.TheVariants as change
+use Rattle.value_store.specs.declared.rows.RowChange.TheVariants as change
 use Rattle.value_store.specs.declared.rows.TableName.TheVariants as table
 use Rattle.value_store.proofs.Telling.{grows_push, has_put}
 use Rattle.value_store.proofs.changes.push_past.Goals as goal

@@ -1,5 +1,5 @@
 use Rattle.value_store.specs.Keeping.{HasValue}
-use Rattle.value_store.specs.declared.rows.Change.TheVariants as change
+use Rattle.value_store.specs.declared.rows.RowChange.TheVariants as change
 use Rattle.value_store.specs.declared.rows.TableName.TheVariants as table
 use Rattle.value_store.proofs.Telling.{grows_push, has_value}
 use Rattle.value_store.proofs.changes.push_value.Goals as goal

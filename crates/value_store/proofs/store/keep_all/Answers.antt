@@ -1,7 +1,7 @@
 use Rattle.std.proofs.Common.{arith, List, ap, subst, inl, inr}
 use Rattle.sqlite.specs.Effect.{Database}
 use Rattle.sqlite.specs.Held.{state}
-use Rattle.value_store.specs.declared.rows.Change.{Change}
+use Rattle.value_store.specs.declared.rows.RowChange.{RowChange}
 use Rattle.value_store.specs.Model.{IsAfter}
 use Rattle.value_store.proofs.Telling.{has_all}
 use Rattle.value_store.proofs.Storing.{keeps, keeps_none, grows, where_clean, where_refused}
@@ -13,7 +13,7 @@ returns-clause-kept g c =
     let new = state g.S.Store c.keep.new.conn in
     let changes = c.in_ok-changes.changes.items in
     where_clean c.keep.result c.keep.ensures.kept (λ after. keeps c.args.stored.now old new (λ clean. has_all c.args.stored.now changes old.now.trees new.now.trees c.in_ok-changes.ensures
-    (subst (λ (turn : List Change). IsAfter turn old.now.trees new.now.trees) c.deref.ensures.value (after clean))))
+    (subst (λ (turn : List RowChange). IsAfter turn old.now.trees new.now.trees) c.deref.ensures.value (after clean))))
 
 pub returns-clause-refused : goal.returns-clause-refused
 returns-clause-refused g c =
@@ -28,5 +28,5 @@ returns-clause-crash g c =
     let changes = c.in_ok-changes.changes.items in
     grows c.args.stored.now old new (λ clean. omega (arith, c.keep.ensures.crash.clean)) (λ clean trees may. elim (c.keep.ensures.crash.crash clean trees may) [
       | inl left ↦ inl left
-      | inr after ↦ inr (has_all c.args.stored.now changes old.now.trees trees c.in_ok-changes.ensures (subst (λ (turn : List Change). IsAfter turn old.now.trees trees) c.deref.ensures.value after))
+      | inr after ↦ inr (has_all c.args.stored.now changes old.now.trees trees c.in_ok-changes.ensures (subst (λ (turn : List RowChange). IsAfter turn old.now.trees trees) c.deref.ensures.value after))
     ])

@@ -8,7 +8,7 @@ use Rattle.sqlite.specs.State.{HasCleanDisk, Survives, State}
 use Rattle.sqlite.specs.Held.{state}
 use Rattle.sqlite.proofs.StateLemmas.{survives_then}
 use Rattle.value_store.specs.Model.{IsStore, IsAfter}
-use Rattle.value_store.specs.declared.rows.Change.{Change}
+use Rattle.value_store.specs.declared.rows.RowChange.{RowChange}
 use Rattle.value_store.proofs.Settling.{Back, keeps_then, undone_then, rolled_at_commit}
 use Rattle.value_store.proofs.Closing.{after_more, after_none, on_ok, whatever, if_err, either_way}
 use Rattle.value_store.proofs.turns.make_all.Given as given
@@ -39,7 +39,7 @@ each-preserved g c =
     )
 
 -- what the loop has made of the file, where the file could be used or the turn is empty
-made_all : (old mid : State) (turn : List Change) (k : ℕ) → length turn ≤ k → (IsStore old.now → IsStore mid.now × IsAfter (take k turn) old.now.trees mid.now.trees)
+made_all : (old mid : State) (turn : List RowChange) (k : ℕ) → length turn ≤ k → (IsStore old.now → IsStore mid.now × IsAfter (take k turn) old.now.trees mid.now.trees)
     → ((take k turn ≡ []) × (mid.now.trees ≡ old.now.trees)) ⊎ IsTrue old.is_open → (IsTrue old.is_open → IsStore old.now) → IsAfter turn old.now.trees mid.now.trees
 made_all old mid turn k all made (inl none) ready = subst (λ t. IsAfter t old.now.trees mid.now.trees) (sym none.0 ∙ take_all k turn all) (after_none old.now.trees mid.now.trees none.1)
 made_all old mid turn k all made (inr is_open) ready = subst (λ t. IsAfter t old.now.trees mid.now.trees) (take_all k turn all) (made (ready is_open)).1
