@@ -3,11 +3,11 @@ use Rattle.std.proofs.Common.{Option, Some, None, Err, sym}
 use Rattle.std.proofs.lemmas.Option.{none-some}
 use Rattle.commands.specs.Said.{MadeBy, OfNodes}
 use Rattle.commands.specs.NodeFiles.{Made}
-use Rattle.commands.specs.declared.status.Status.{Status}
-use Rattle.commands.specs.declared.status.Status.TheVariants.{Done, Usage, File, Nodes, Scenario, Halted, Network, Stream, Store}
+use Rattle.commands.specs.declared.exit_status.ExitStatus.{ExitStatus}
+use Rattle.commands.specs.declared.exit_status.ExitStatus.TheVariants.{Done, Usage, File, Nodes, Scenario, Halted, Network, Stream, Store}
 
 -- nothing was made
-pub unmade : (Comes : Made → Status → Type 0) (Stays : Type 0) (said : Option Made) (status : Status) → MadeBy (Err status) said → Stays → ((made : Made) → Comes made Halted)
+pub unmade : (Comes : Made → ExitStatus → Type 0) (Stays : Type 0) (said : Option Made) (status : ExitStatus) → MadeBy (Err status) said → Stays → ((made : Made) → Comes made Halted)
     → OfNodes Comes Stays said status
 unmade Comes Stays None Nodes by stays halted = stays
 unmade Comes Stays None Halted by stays halted = stays

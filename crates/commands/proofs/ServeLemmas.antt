@@ -17,8 +17,8 @@ use Rattle.socket_server.specs.declared.serve_fault.ServeFault.TheVariants as se
 use Rattle.scenario_run.specs.Held.{Place, Printed, CutShort}
 use Rattle.commands.specs.Serving.{Between, ServesWith, text_of, output_at, ListensAndServes, ServesOn, ServesStored, ServesBy, BeginsWithStore, IsUnopened, idle_of, configured, status_served, status_stored}
 use Rattle.commands.specs.NodeFiles.{Made}
-use Rattle.commands.specs.declared.status.Status.{Status}
-use Rattle.commands.specs.declared.status.Status.TheVariants.{Halted, Store}
+use Rattle.commands.specs.declared.exit_status.ExitStatus.{ExitStatus}
+use Rattle.commands.specs.declared.exit_status.ExitStatus.TheVariants.{Halted, Store}
 use Rattle.command_line.specs.declared.command.ServeOptions.{ServeOptions}
 
 module _ (old new : Place) (idle : ℕ) (o : ServeOptions) (server : Keeping) where
@@ -74,38 +74,38 @@ memory_wanting at idle o config space true = inr (inr refl, refl)
 pub no_memory_by : (at : Place) (o : ServeOptions) (made : Made) → ServesBy at at o made Halted
 no_memory_by at o made = memory_wanting at (idle_of made.0.session_time o.idle) o (configured made.0 o) made.1 (is_some o.store)
 
-module _ (old new : Place) (idle : ℕ) (o : ServeOptions) (config : Configuration) (space : SpaceState) (status : Status) where
+module _ (old new : Place) (idle : ℕ) (o : ServeOptions) (config : Configuration) (space : SpaceState) (status : ExitStatus) where
   -- by a server that has begun, or that didn't
-  abbrev Begun : {S : Type 0} → (S → Keeping) → Result S Status → Type 0
+  abbrev Begun : {S : Type 0} → (S → Keeping) → Result S ExitStatus → Type 0
   Begun view begun = MatchResult begun (λ server. ServesOn old new idle o (view server) status) (λ s. (status ≡ s) × (new ≡ old))
 
-  from_store : {S : Type 0} (view : S → Keeping) (begun : Result S Status) → MatchResult begun (λ server. BeginsWithStore config space (view server)) IsUnopened → Begun view begun
+  from_store : {S : Type 0} (view : S → Keeping) (begun : Result S ExitStatus) → MatchResult begun (λ server. BeginsWithStore config space (view server)) IsUnopened → Begun view begun
       → ServesStored old new idle o config space true status
   from_store view (Ok server) begins h = inl (view server, begins, h)
   from_store view (Err s) unopened (is, same) = inr (subst IsUnopened (sym is) unopened, same)
 
-  without_store : {S : Type 0} (view : S → Keeping) (begun : Result S Status) → MatchResult begun (λ server. view server ≡ keeping_all (Some (opening config space)) None) (λ s. s ≡ Halted)
+  without_store : {S : Type 0} (view : S → Keeping) (begun : Result S ExitStatus) → MatchResult begun (λ server. view server ≡ keeping_all (Some (opening config space)) None) (λ s. s ≡ Halted)
       → Begun view begun → ServesStored old new idle o config space false status
   without_store view (Ok server) begins h = subst (λ (s : Keeping). ServesOn old new idle o s status) begins h
   without_store view (Err s) halted (is, same) =
-      subst (λ (s : Status). ServesStored old new idle o config space false s) (sym (is ∙ halted))
+      subst (λ (s : ExitStatus). ServesStored old new idle o config space false s) (sym (is ∙ halted))
       (subst (λ (p : Place). ServesStored old p idle o config space false Halted) (sym same) (memory_wanting old idle o config space false))
 
   -- with a store
-  pub served_from_store : {S : Type 0} (path : Bor (List ℕ)) → o.store ≡ Some path → (view : S → Keeping) (begun : Result S Status)
+  pub served_from_store : {S : Type 0} (path : Bor (List ℕ)) → o.store ≡ Some path → (view : S → Keeping) (begun : Result S ExitStatus)
       → MatchResult begun (λ server. BeginsWithStore config space (view server)) IsUnopened → Begun view begun → ServesStored old new idle o config space (is_some o.store) status
   served_from_store path some view begun begins h =
       subst (λ (b : Bool). ServesStored old new idle o config space b status) (sym (ap is_some some)) (from_store view begun begins h)
 
   -- and without one
-  pub served_without_store : {S : Type 0} → o.store ≡ None → (view : S → Keeping) (begun : Result S Status)
+  pub served_without_store : {S : Type 0} → o.store ≡ None → (view : S → Keeping) (begun : Result S ExitStatus)
       → MatchResult begun (λ server. view server ≡ keeping_all (Some (opening config space)) None) (λ s. s ≡ Halted) → Begun view begun
       → ServesStored old new idle o config space (is_some o.store) status
   served_without_store none view begun begins h =
       subst (λ (b : Bool). ServesStored old new idle o config space b status) (sym (ap is_some none)) (without_store view begun begins h)
 
 -- as the words say
-pub by_words : (old new : Place) (o : ServeOptions) (made : Made) (status : Status) (idle : ℕ) (config : Configuration) → idle ≡ idle_of made.0.session_time o.idle
+pub by_words : (old new : Place) (o : ServeOptions) (made : Made) (status : ExitStatus) (idle : ℕ) (config : Configuration) → idle ≡ idle_of made.0.session_time o.idle
     → config ≡ configured made.0 o → ServesStored old new idle o config made.1 (is_some o.store) status → ServesBy old new o made status
 by_words old new o made status idle config e f h =
     subst (λ (n : ℕ). ServesStored old new n o (configured made.0 o) made.1 (is_some o.store) status) e

@@ -20,8 +20,8 @@ use Rattle.commands.specs.NodeFiles.{ReadFile, Made, made_in, made_of_none}
 use Rattle.scenario_run.specs.Held.{Place, place}
 use Rattle.scenario_run.specs.declared.runs.Lines.TheVariants.{Outs, Rows}
 use Rattle.commands.specs.Scenarios.{AssemblesFile, TellsFiles}
-use Rattle.commands.specs.declared.status.Status.{Status}
-use Rattle.commands.specs.declared.status.Status.TheVariants.{Done, Usage, Halted, Stream}
+use Rattle.commands.specs.declared.exit_status.ExitStatus.{ExitStatus}
+use Rattle.commands.specs.declared.exit_status.ExitStatus.TheVariants.{Done, Usage, Halted, Stream}
 use Rattle.commands.specs.declared.program.Ended.{Ended}
 use Rattle.commands.specs.Said.{OfNodes, OfFile, Says}
 use Rattle.commands.specs.Serving.{ServesFile}
@@ -32,13 +32,13 @@ unfoldable pub counts_line : SpaceState → List ℕ
 counts_line space = decimal (length space.nodes) ++ codes " nodes, " ++ decimal (length space.triples) ++ codes " references\n"
 
 -- it is said how many nodes and references were made; or nothing is said, for want of memory
-abbrev pub Counts : Place → Place → Made → Status → Type 0
+abbrev pub Counts : Place → Place → Made → ExitStatus → Type 0
 Counts old new made status = Says (counts_line made.1) old new status ⊎ ((status ≡ Halted) × (new ≡ old))
 
-abbrev pub Checks : Place → Place → List ℕ → Status → Type 0
+abbrev pub Checks : Place → Place → List ℕ → ExitStatus → Type 0
 Checks old new text status = OfNodes (Counts old new) (new ≡ old) (made_in text) status
 
-abbrev pub ChecksFile : Place → Place → List ℕ → Status → Option ReadFile → Type 0
+abbrev pub ChecksFile : Place → Place → List ℕ → ExitStatus → Option ReadFile → Type 0
 ChecksFile old new path status file = OfFile (Counts old new) (new ≡ old) path status file
 
 -- ---- pipe
@@ -48,7 +48,7 @@ unfoldable pub opened : Made → State
 opened made = (run_of (Some (opening made.0 made.1)) (Opened 1 (replicate 32 0) ∷ [])).server
 
 -- how a run of the pump ends the program
-abbrev pub status_of : Result (Unit {0}) PumpFault → Status
+abbrev pub status_of : Result (Unit {0}) PumpFault → ExitStatus
 status_of (Ok x) = Done
 status_of (Err (fault.Step step_fault)) = Halted
 status_of (Err other) = Stream
@@ -67,16 +67,16 @@ module _ {R W : Type 0} (remaining : R → Option (List ℕ)) (contents : W → 
   abbrev pub Pumps : Made → (pump.Scene → pump.Scene → Type 0) → Type 0
   Pumps made Ends = (server : State) × (sent : ℕ) × Ends (scene remaining contents 0 (opened made) input output) (scene remaining contents sent server input' output')
 
-  abbrev pub Pipes : Made → Status → Type 0
+  abbrev pub Pipes : Made → ExitStatus → Type 0
   Pipes made Done = Pumps made (pump.Done 1)
   Pipes made Stream = (f : PumpFault) × IsOfStreams f × Pumps made (λ old new. pump.Stopped 1 old new f)
   Pipes made Halted = ((f : StepFault) × Pumps made (λ old new. pump.Stopped 1 old new (fault.Step f))) ⊎ Untouched
   Pipes made status = ⊥
 
-  abbrev pub PipesMade : Option Made → Status → Type 0
+  abbrev pub PipesMade : Option Made → ExitStatus → Type 0
   PipesMade made status = OfNodes Pipes Untouched made status
 
-  abbrev pub PipesFile : Option (List ℕ) → Status → Option ReadFile → Type 0
+  abbrev pub PipesFile : Option (List ℕ) → ExitStatus → Option ReadFile → Type 0
   PipesFile None status None = PipesMade made_of_none status
   PipesFile None status (Some file) = ⊥
   PipesFile (Some path) status file = OfFile Pipes Untouched path status file

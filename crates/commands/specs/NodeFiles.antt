@@ -7,8 +7,8 @@ use Rattle.ua_space.specs.declared.fault.SpaceFault.{SpaceFault}
 use Rattle.node_loader.specs.File.{meaning_of}
 use Rattle.node_loader.specs.declared.fault.LoadFault.{LoadFault}
 use Rattle.node_loader.specs.declared.file.Loaded.{Loaded}
-use Rattle.commands.specs.declared.status.Status.{Status}
-use Rattle.commands.specs.declared.status.Status.TheVariants.{File, Halted}
+use Rattle.commands.specs.declared.exit_status.ExitStatus.{ExitStatus}
+use Rattle.commands.specs.declared.exit_status.ExitStatus.TheVariants.{File, Halted}
 
 -- a file that was read: its path and its text
 pub record ReadFile : Type 0 where
@@ -16,7 +16,7 @@ pub record ReadFile : Type 0 where
   pub text : List ℕ
 
 -- a file that couldn't be read, or for which there was no memory
-abbrev pub ReadsNone : Status → Type 0
+abbrev pub ReadsNone : ExitStatus → Type 0
 ReadsNone status = (status ≡ File) ⊎ (status ≡ Halted)
 
 -- a configuration, and the address space of a server

@@ -24,8 +24,8 @@ use Rattle.socket_server.specs.declared.serve_fault.ServeFault.TheVariants as se
 use Rattle.command_line.specs.declared.command.ServeOptions.{ServeOptions}
 use Rattle.commands.specs.NodeFiles.{ReadFile, Made}
 use Rattle.commands.specs.Said.{Says, OfNodes, OfFile}
-use Rattle.commands.specs.declared.status.Status.{Status}
-use Rattle.commands.specs.declared.status.Status.TheVariants.{Done, Halted, Network, Stream, Store}
+use Rattle.commands.specs.declared.exit_status.ExitStatus.{ExitStatus}
+use Rattle.commands.specs.declared.exit_status.ExitStatus.TheVariants.{Done, Halted, Network, Stream, Store}
 
 -- what is put out at a place that is lent by this name
 abbrev pub output_at : ℕ → Place → Output
@@ -48,12 +48,12 @@ ServesWith o sockets server old new (Ok x) = Between o.trace (IsServed (text_of 
 ServesWith o sockets server old new (Err fault) = Between o.trace (IsStopped (text_of o.trace) sockets server fault) old new
 
 -- how the fault of a store ends the program
-abbrev pub status_stored : StoreFault → Status
+abbrev pub status_stored : StoreFault → ExitStatus
 status_stored store_fault.Memory = Halted
 status_stored f = Store
 
 -- how the end of serving ends the program
-abbrev pub status_served : Result (Unit {0}) ServeFault → Status
+abbrev pub status_served : Result (Unit {0}) ServeFault → ExitStatus
 status_served (Ok x) = Done
 status_served (Err (serve_fault.Step f)) = Halted
 status_served (Err serve_fault.Memory) = Halted
@@ -89,7 +89,7 @@ ListensAndServes old new idle o server result =
 
 -- It is said that this server listens, and it serves the turns that were asked for, from no connection on, or stops before, for the fault that
 -- the status tells. Or nothing is said, for such a fault of the program's own; or saying it failed, and nobody is served
-abbrev pub ServesOn : Place → Place → ℕ → ServeOptions → Keeping → Status → Type 0
+abbrev pub ServesOn : Place → Place → ℕ → ServeOptions → Keeping → ExitStatus → Type 0
 ServesOn old new idle o server Done = ListensAndServes old new idle o server (Ok tt)
 ServesOn old new idle o server Stream = Says (listening_line o.port) old new Stream ⊎ ListensAndServes old new idle o server (Err serve_fault.Trace)
 ServesOn old new idle o server status =
@@ -118,24 +118,24 @@ BeginsWithStore config space server =
     × (server ≡ keeping_all (Some (opening (with_store config kept) begun)) is)
 
 -- a store can't be opened, or there is no memory for what it has kept
-abbrev pub IsUnopened : Status → Type 0
+abbrev pub IsUnopened : ExitStatus → Type 0
 IsUnopened status = (status ≡ Store) ⊎ (status ≡ Halted)
 
 -- ---- all of it
 
 -- The server is the new one of what was made, as the words configure it. Where they name a store, it begins with what was read back of it; or
 -- the store can't be opened, and nothing is said
-abbrev pub ServesStored : Place → Place → ℕ → ServeOptions → Configuration → SpaceState → Bool → Status → Type 0
+abbrev pub ServesStored : Place → Place → ℕ → ServeOptions → Configuration → SpaceState → Bool → ExitStatus → Type 0
 ServesStored old new idle o config space false status = ServesOn old new idle o (keeping_all (Some (opening config space)) None) status
 ServesStored old new idle o config space true status =
     ((server : Keeping) × BeginsWithStore config space server × ServesOn old new idle o server status) ⊎ (IsUnopened status × (new ≡ old))
 
 -- sockets may be silent for as long as the configuration of what was made and the words say
-abbrev pub ServesBy : Place → Place → ServeOptions → Made → Status → Type 0
+abbrev pub ServesBy : Place → Place → ServeOptions → Made → ExitStatus → Type 0
 ServesBy old new o made = ServesStored old new (idle_of made.0.session_time o.idle) o (configured made.0 o) made.1 (is_some o.store)
 
-abbrev pub ServesMade : Place → Place → ServeOptions → Option Made → Status → Type 0
+abbrev pub ServesMade : Place → Place → ServeOptions → Option Made → ExitStatus → Type 0
 ServesMade old new o made status = OfNodes (ServesBy old new o) (new ≡ old) made status
 
-abbrev pub ServesFile : Place → Place → ServeOptions → Status → Option ReadFile → Type 0
+abbrev pub ServesFile : Place → Place → ServeOptions → ExitStatus → Option ReadFile → Type 0
 ServesFile old new o status file = OfFile (ServesBy old new o) (new ≡ old) o.nodes.now status file

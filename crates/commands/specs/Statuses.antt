@@ -1,9 +1,9 @@
 -- The exit statuses.
 use Rattle.std.specs.Prelude.{ℕ}
-use Rattle.commands.specs.declared.status.Status.{Status}
-use Rattle.commands.specs.declared.status.Status.TheVariants.{Done, Usage, File, Nodes, Scenario, Halted, Network, Stream, Store}
+use Rattle.commands.specs.declared.exit_status.ExitStatus.{ExitStatus}
+use Rattle.commands.specs.declared.exit_status.ExitStatus.TheVariants.{Done, Usage, File, Nodes, Scenario, Halted, Network, Stream, Store}
 
-abbrev pub code_of : Status → ℕ
+abbrev pub code_of : ExitStatus → ℕ
 code_of Done = 0
 code_of Usage = 2
 code_of File = 3

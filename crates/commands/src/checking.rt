@@ -3,8 +3,8 @@
 ghost use Rattle.scenario_run.specs.Held.{place};
 ghost use Rattle.commands.specs.Commands.{ChecksFile};
 
+use crate::exit_status::ExitStatus;
 use crate::program::{Ended, check, read_file};
-use crate::status::Status;
 use node_file_advice::{advice, durations};
 use std::alloc::{AllocError, Global};
 use std::fs;
@@ -13,24 +13,30 @@ use std::rt::Files;
 use stream_taps::Tap;
 
 // What stands below the line of a text whose check ended so.
-fn explanation(alloc: Global, text: &str, status: Status) -> Result<String, AllocError> {
+fn explanation(alloc: Global, text: &str, status: ExitStatus) -> Result<String, AllocError> {
     match status {
-        Status::Done => durations(alloc, text),
-        Status::Nodes => advice(alloc, text),
+        ExitStatus::Done => durations(alloc, text),
+        ExitStatus::Nodes => advice(alloc, text),
         _ => Ok(String::new(alloc)),
     }
 }
 
 /// Says on standard error, below the line of a text whose check ended so, what is wrong with it in its own words, or how long its
 /// durations are. Without memory for that nothing is said.
-pub fn explain<E: Write>(alloc: Global, text: &str, status: Status, errors: &mut E) {
+pub fn explain<E: Write>(alloc: Global, text: &str, status: ExitStatus, errors: &mut E) {
     if let Ok(told) = explanation(alloc, text, status) {
         let _ = write!(errors, "{told}");
     }
 }
 
 // `explain`, where it is asked for.
-fn explain_if<E: Write>(asked: bool, alloc: Global, text: &str, status: Status, errors: &mut E) {
+fn explain_if<E: Write>(
+    asked: bool,
+    alloc: Global,
+    text: &str,
+    status: ExitStatus,
+    errors: &mut E,
+) {
     if asked {
         explain(alloc, text, status, errors);
     }
@@ -41,10 +47,10 @@ fn explain_file<R: Files + AllocGlobal, E: Write>(
     asked: bool,
     rt: &R,
     path: &str,
-    status: Status,
+    status: ExitStatus,
     errors: &mut E,
 ) {
-    if asked && status == Status::File {
+    if asked && status == ExitStatus::File {
         if let Err(error) = fs::read_to_string(rt, path) {
             let _ = writeln!(errors, "{error}");
         }

@@ -3,9 +3,9 @@
 ghost use Rattle.std.specs.Prelude.{◌≡◌};
 ghost use Rattle.commands.specs.Statuses.{code_of};
 
-/// How the program ends. The exit status is [`Status::code`].
+/// How the program ends. The exit status is [`ExitStatus::code`].
 #[derive(Clone, Copy, Debug, PartialEq, Eq)]
-pub enum Status {
+pub enum ExitStatus {
     /// All was done, as far as the input went.
     Done,
     /// The command line is none of the program's.
@@ -26,21 +26,21 @@ pub enum Status {
     Store,
 }
 
-impl Status {
+impl ExitStatus {
     /// The exit status: 0 where all was done.
     pub fn code(self) -> u8
         ensures { result ≡ code_of self }
     {
         match self {
-            Status::Done => 0,
-            Status::Usage => 2,
-            Status::File => 3,
-            Status::Nodes => 4,
-            Status::Scenario => 4,
-            Status::Halted => 5,
-            Status::Network => 6,
-            Status::Stream => 7,
-            Status::Store => 8,
+            ExitStatus::Done => 0,
+            ExitStatus::Usage => 2,
+            ExitStatus::File => 3,
+            ExitStatus::Nodes => 4,
+            ExitStatus::Scenario => 4,
+            ExitStatus::Halted => 5,
+            ExitStatus::Network => 6,
+            ExitStatus::Stream => 7,
+            ExitStatus::Store => 8,
         }
     }
 }

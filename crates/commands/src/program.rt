@@ -10,9 +10,9 @@ ghost use Rattle.commands.specs.Commands.{Checks, opened, status_of, Pipes, Pipe
 ghost use Rattle.commands.specs.Commands.{counts_line as counts_line_spec};
 
 use crate::checking::check_at;
+use crate::exit_status::ExitStatus;
 use crate::scenarios::{asm_at, run_at};
 use crate::serving::serve_at;
-use crate::status::Status;
 use crate::text_file::{FileFault, TextFile};
 use command_line::{Command, Stop, parse};
 use node_loader::{Cause, Loaded, load};
@@ -37,14 +37,14 @@ const CONNECTION: u64 = 1;
 /// How a run of the program ended, and the node file and the scenario that it read.
 #[derive(Debug, Drop)]
 pub struct Ended {
-    pub status: Status,
+    pub status: ExitStatus,
     pub file: Option<TextFile>,
     pub scenario: Option<TextFile>,
 }
 
 impl Ended {
     // No file was read.
-    pub(crate) fn by(status: Status) -> Ended
+    pub(crate) fn by(status: ExitStatus) -> Ended
         ensures { result ≡ record { status = status; file = None; scenario = None } }
     {
         Ended {
@@ -55,7 +55,7 @@ impl Ended {
     }
 
     // Of the two the node file alone was read.
-    pub(crate) fn with_nodes(status: Status, file: TextFile) -> Ended
+    pub(crate) fn with_nodes(status: ExitStatus, file: TextFile) -> Ended
         ensures { result ≡ record { status = status; file = Some file; scenario = None } }
     {
         Ended {
@@ -67,36 +67,36 @@ impl Ended {
 }
 
 /// Says that memory ran out.
-pub fn no_memory<E: Write>(errors: &mut E) -> Status
-    ensures { result ≡ Status.Halted }
+pub fn no_memory<E: Write>(errors: &mut E) -> ExitStatus
+    ensures { result ≡ ExitStatus.Halted }
 {
     let _ = writeln!(errors, "memory");
-    Status::Halted
+    ExitStatus::Halted
 }
 
 /// Says on standard error why a step of the server failed: `memory`, and `halted` for every other fault. Public for the test of these
 /// texts, since nothing outside brings most of them about.
-pub fn step_fault<E: Write>(fault: StepFault, errors: &mut E) -> Status
-    ensures { result ≡ Status.Halted }
+pub fn step_fault<E: Write>(fault: StepFault, errors: &mut E) -> ExitStatus
+    ensures { result ≡ ExitStatus.Halted }
 {
     match fault {
         StepFault::Memory => no_memory(errors),
         _ => {
             let _ = writeln!(errors, "halted");
-            Status::Halted
+            ExitStatus::Halted
         }
     }
 }
 
-pub(crate) fn stream<E: Write>(errors: &mut E) -> Status
-    ensures { result ≡ Status.Stream }
+pub(crate) fn stream<E: Write>(errors: &mut E) -> ExitStatus
+    ensures { result ≡ ExitStatus.Stream }
 {
     let _ = writeln!(errors, "stream");
-    Status::Stream
+    ExitStatus::Stream
 }
 
 // Writes a text whole, or says that the stream failed.
-pub(crate) fn say<O: Write, E: Write>(text: &str, output: &mut Tap<O>, errors: &mut E) -> Status
+pub(crate) fn say<O: Write, E: Write>(text: &str, output: &mut Tap<O>, errors: &mut E) -> ExitStatus
     ensures { Says text.now (place O.contents output.old) (place O.contents output.new) result }
 {
     let bytes = text.as_bytes();
@@ -107,7 +107,7 @@ pub(crate) fn say<O: Write, E: Write>(text: &str, output: &mut Tap<O>, errors: &
     if output.flush().is_err() {
         return stream(errors);
     }
-    Status::Done
+    ExitStatus::Done
 }
 
 // Reads the file at this path, or says why there is none.
@@ -115,7 +115,7 @@ pub(crate) fn read_file<R: Files + AllocGlobal, E: Write>(
     rt: &R,
     path: &str,
     errors: &mut E,
-) -> Result<TextFile, Status>
+) -> Result<TextFile, ExitStatus>
     ensures file { IfOk result (λ file. file.path ≡ path.now) }
     ensures status { IfErr result ReadsNone }
 {
@@ -124,7 +124,7 @@ pub(crate) fn read_file<R: Files + AllocGlobal, E: Write>(
         Err(FileFault::Memory) => Err(no_memory(errors)),
         Err(FileFault::Unreadable) => {
             let _ = writeln!(errors, "file {path}");
-            Err(Status::File)
+            Err(ExitStatus::File)
         }
     }
 }
@@ -136,7 +136,7 @@ fn build<E: Write>(
     nodes: Vec<Node>,
     triples: Vec<Triple>,
     errors: &mut E,
-) -> Result<(Config, Space), Status>
+) -> Result<(Config, Space), ExitStatus>
     ensures { MadeBy result (built config (space_of config nodes.items triples.items)) }
 {
     match Space::build(alloc, &config, nodes, triples) {
@@ -144,7 +144,7 @@ fn build<E: Write>(
         Err(SpaceFault::Memory) => Err(no_memory(errors)),
         Err(fault) => {
             let _ = writeln!(errors, "nodes: {fault}");
-            Err(Status::Nodes)
+            Err(ExitStatus::Nodes)
         }
     }
 }
@@ -154,7 +154,7 @@ pub(crate) fn nodes_in<E: Write>(
     alloc: Global,
     text: &str,
     errors: &mut E,
-) -> Result<(Config, Space), Status>
+) -> Result<(Config, Space), ExitStatus>
     ensures { MadeBy result (made_in text.now) }
 {
     let Loaded {
@@ -166,14 +166,14 @@ pub(crate) fn nodes_in<E: Write>(
         Err(fault) if fault.cause == Cause::Memory => return Err(no_memory(errors)),
         Err(fault) => {
             let _ = writeln!(errors, "nodes: {fault}");
-            return Err(Status::Nodes);
+            return Err(ExitStatus::Nodes);
         }
     };
     build(alloc, config, nodes.into_vec(), triples.into_vec(), errors)
 }
 
 // The standard configuration, and the base set alone.
-fn no_nodes<E: Write>(alloc: Global, errors: &mut E) -> Result<(Config, Space), Status>
+fn no_nodes<E: Write>(alloc: Global, errors: &mut E) -> Result<(Config, Space), ExitStatus>
     ensures { MadeBy result made_of_none }
 {
     match Config::standard(alloc) {
@@ -201,7 +201,7 @@ pub fn check<O: Write, E: Write>(
     text: &str,
     output: &mut Tap<O>,
     errors: &mut E,
-) -> Status
+) -> ExitStatus
     ensures { Checks (place O.contents output.old) (place O.contents output.new) text.now result }
 {
     match nodes_in(alloc, text, errors) {
@@ -222,18 +222,18 @@ fn opened_server(alloc: Global, config: Config, space: Space) -> Result<Server, 
         conn: CONNECTION,
         key: [0; 32],
     };
-    match server.step(alloc, &opening) {
+    match server.step(&opening) {
         Ok(_) => Ok(server),
         Err(fault) => Err(fault),
     }
 }
 
 // How a run of the pump ends the program.
-fn pumped<E: Write>(ran: Result<(), PumpFault>, errors: &mut E) -> Status
+fn pumped<E: Write>(ran: Result<(), PumpFault>, errors: &mut E) -> ExitStatus
     ensures { result ≡ status_of ran }
 {
     match ran {
-        Ok(()) => Status::Done,
+        Ok(()) => ExitStatus::Done,
         Err(PumpFault::Step(fault)) => step_fault(fault, errors),
         Err(PumpFault::Read | PumpFault::Write | PumpFault::Turns) => stream(errors),
     }
@@ -252,25 +252,25 @@ pub fn pipe<I: Read, O: Write, E: Write>(
     input: &mut Tap<I>,
     output: &mut Tap<O>,
     errors: &mut E,
-) -> Status
+) -> ExitStatus
     ensures { Pipes I.remaining O.contents input.old input.new output.old output.new (config, space) result }
 {
     let mut server = match opened_server(alloc, config, space) {
         Ok(server) => server,
         Err(fault) => return step_fault(fault, errors),
     };
-    let ran = Pump::new().run(alloc, &mut server, CONNECTION, input, output);
+    let ran = Pump::new().run(&mut server, CONNECTION, input, output);
     pumped(ran, errors)
 }
 
 // `pipe` of what was made.
 fn pipe_made<I: Read, O: Write, E: Write>(
     alloc: Global,
-    made: Result<(Config, Space), Status>,
+    made: Result<(Config, Space), ExitStatus>,
     input: &mut Tap<I>,
     output: &mut Tap<O>,
     errors: &mut E,
-) -> Status
+) -> ExitStatus
     ensures { (said : Option Made) → MadeBy made said →
         PipesMade I.remaining O.contents input.old input.new output.old output.new said result }
 {
@@ -340,7 +340,7 @@ pub fn run<
         Err(Stop::Help(text)) => Ended::by(say(text.as_str(), output, errors)),
         Err(Stop::Usage(text)) => {
             let _ = write!(errors, "{text}");
-            Ended::by(Status::Usage)
+            Ended::by(ExitStatus::Usage)
         }
         Err(Stop::Memory) => Ended::by(no_memory(errors)),
     }

@@ -5,8 +5,8 @@ ghost use Rattle.scenario_run.specs.Assembly.{events_of};
 ghost use Rattle.scenario_run.specs.Held.{place};
 ghost use Rattle.commands.specs.Scenarios.{AssembledBy, Assembles, AssemblesFile, Tells, TellsFile, TellsFiles, status_printed, status_told};
 
+use crate::exit_status::ExitStatus;
 use crate::program::{Ended, no_memory, nodes_in, read_file, step_fault, stream};
-use crate::status::Status;
 use crate::text_file::TextFile;
 use scenario_run::{Lines, PrintFault, RunFault, assemble, print_events, print_run};
 use scenario_text::Cause;
@@ -19,7 +19,11 @@ use ua_space::Space;
 use ua_types::{Config, Listed};
 
 // The events of a scenario, or the status of why there are none.
-fn events_in<E: Write>(alloc: Global, text: &str, errors: &mut E) -> Result<Listed<Event>, Status>
+fn events_in<E: Write>(
+    alloc: Global,
+    text: &str,
+    errors: &mut E,
+) -> Result<Listed<Event>, ExitStatus>
     ensures { AssembledBy result (events_of text.now) }
 {
     match assemble(alloc, text) {
@@ -27,17 +31,17 @@ fn events_in<E: Write>(alloc: Global, text: &str, errors: &mut E) -> Result<List
         Err(fault) if fault.cause == Cause::Memory => Err(no_memory(errors)),
         Err(fault) => {
             let _ = writeln!(errors, "scenario: {fault}");
-            Err(Status::Scenario)
+            Err(ExitStatus::Scenario)
         }
     }
 }
 
 // How printing ends the program.
-fn printed<E: Write>(done: Result<(), PrintFault>, errors: &mut E) -> Status
+fn printed<E: Write>(done: Result<(), PrintFault>, errors: &mut E) -> ExitStatus
     ensures { result ≡ status_printed done }
 {
     match done {
-        Ok(()) => Status::Done,
+        Ok(()) => ExitStatus::Done,
         Err(PrintFault::Write) => stream(errors),
         Err(PrintFault::Memory) => no_memory(errors),
     }
@@ -54,7 +58,7 @@ pub fn asm<O: Write, E: Write>(
     text: &str,
     output: &mut Tap<O>,
     errors: &mut E,
-) -> Status
+) -> ExitStatus
     ensures { Assembles (place O.contents output.old) (place O.contents output.new) (events_of text.now) result }
 {
     match events_in(alloc, text, errors) {
@@ -86,11 +90,11 @@ pub(crate) fn asm_at<R: Files + AllocGlobal, O: Write, E: Write>(
 }
 
 // How a run of events ends the program.
-fn told<E: Write>(ran: Result<(), RunFault>, errors: &mut E) -> Status
+fn told<E: Write>(ran: Result<(), RunFault>, errors: &mut E) -> ExitStatus
     ensures { result ≡ status_told ran }
 {
     match ran {
-        Ok(()) => Status::Done,
+        Ok(()) => ExitStatus::Done,
         Err(RunFault::Write) => stream(errors),
         Err(RunFault::Memory) => no_memory(errors),
         Err(RunFault::Step(fault)) => step_fault(fault, errors),
@@ -107,7 +111,7 @@ fn run<O: Write, E: Write>(
     text: &str,
     output: &mut Tap<O>,
     errors: &mut E,
-) -> Status
+) -> ExitStatus
     ensures { Tells lines (place O.contents output.old) (place O.contents output.new) (config, space) (events_of text.now) result }
 {
     match events_in(alloc, text, errors) {
@@ -115,7 +119,7 @@ fn run<O: Write, E: Write>(
             let Ok(mut server) = Server::new(alloc, config, space) else {
                 return no_memory(errors);
             };
-            let ran = print_run(alloc, lines, &mut server, events.as_slice(), output);
+            let ran = print_run(lines, &mut server, events.as_slice(), output);
             told(ran, errors)
         }
         Err(status) => status,
@@ -131,7 +135,7 @@ fn run_with<R: Files + AllocGlobal, O: Write, E: Write>(
     path: &str,
     output: &mut Tap<O>,
     errors: &mut E,
-) -> (Status, Option<TextFile>)
+) -> (ExitStatus, Option<TextFile>)
     ensures { TellsFile lines (place O.contents output.old) (place O.contents output.new) (config, space) path.now result.0 result.1 }
 {
     match read_file(rt, path, errors) {

@@ -11,11 +11,11 @@ ghost use Rattle.commands.specs.Said.{MadeBy};
 ghost use Rattle.commands.specs.Serving.{BeginsWithStore, Restores, IsUnopened, ServesWith, ServesOn, ServesBy, ServesMade, ServesFile, status_served, status_stored};
 ghost use Rattle.commands.specs.Serving.{idle_of as idle_of_spec, listening_line as listening_line_spec, with_url as with_url_spec, configured as configured_spec, with_store as with_store_spec};
 
+use crate::exit_status::ExitStatus;
 use crate::footprint::most_bytes;
 use crate::log::Log;
 use crate::process::Process;
 use crate::program::{Ended, no_memory, nodes_in, read_file, say, step_fault, stream};
-use crate::status::Status;
 use crate::stop_file::StopFile;
 use crate::watching::{Tracing, Visitors, Visits};
 use command_line::ServeOptions;
@@ -35,31 +35,31 @@ use ua_space::Space;
 use ua_types::{Config, Text, write_id};
 
 // Says why a store can't keep what is to be kept, or can't be opened.
-fn store_fault<E: Write>(fault: StoreFault, errors: &mut E) -> Status
+fn store_fault<E: Write>(fault: StoreFault, errors: &mut E) -> ExitStatus
     ensures { result ≡ status_stored fault }
 {
     match fault {
         StoreFault::Memory => no_memory(errors),
         _ => {
             let _ = writeln!(errors, "store {fault:?}");
-            Status::Store
+            ExitStatus::Store
         }
     }
 }
 
 // How the end of serving ends the program.
-fn served<E: Write>(ran: Result<(), ServeFault>, errors: &mut E) -> Status
+fn served<E: Write>(ran: Result<(), ServeFault>, errors: &mut E) -> ExitStatus
     ensures { result ≡ status_served ran }
 {
     match ran {
-        Ok(()) => Status::Done,
+        Ok(()) => ExitStatus::Done,
         Err(ServeFault::Step(fault)) => step_fault(fault, errors),
         Err(ServeFault::Memory) => no_memory(errors),
         Err(ServeFault::Trace) => stream(errors),
         Err(ServeFault::Store(fault)) => store_fault(fault, errors),
         Err(ServeFault::Network | ServeFault::Port | ServeFault::Address) => {
             let _ = writeln!(errors, "network");
-            Status::Network
+            ExitStatus::Network
         }
     }
 }
@@ -215,7 +215,6 @@ fn tell_not_had<E: Write>(fault: ServeFault, address: IpAddr, port: u16, errors:
 // Serves until the turns are over, or the file to stop at is there.
 fn run_until<R: Files + Clock + Wait, K: Keeper, W: Observer>(
     rt: &R,
-    alloc: Global,
     serve: &mut Serve,
     server: &mut KeptServer<K>,
     observer: &mut W,
@@ -238,7 +237,6 @@ fn run_until<R: Files + Clock + Wait, K: Keeper, W: Observer>(
 // Serves by this server, and tells what happens.
 fn serve_and_tell<R: Files + Clock + Wait, K: Keeper, O: Write, E: Write + Process>(
     rt: &R,
-    alloc: Global,
     serve: &mut Serve,
     server: &mut KeptServer<K>,
     options: &ServeOptions<'_>,
@@ -247,6 +245,7 @@ fn serve_and_tell<R: Files + Clock + Wait, K: Keeper, O: Write, E: Write + Proce
 ) -> Result<(), ServeFault>
     ensures { ServesWith options.now serve.old (keeping K.kept server.old) (place O.contents output.old) (place O.contents output.new) result }
 {
+    let alloc = server.allocator();
     let mut visits = Visits::new(alloc, options.quiet, options.summary);
     if options.trace {
         let mut text = String::new(alloc);
@@ -256,20 +255,19 @@ fn serve_and_tell<R: Files + Clock + Wait, K: Keeper, O: Write, E: Write + Proce
             visits: &mut visits,
             text: &mut text,
         };
-        run_until(rt, alloc, serve, server, &mut tracing, options)
+        run_until(rt, serve, server, &mut tracing, options)
     } else {
         let mut visitors = Visitors {
             errors,
             visits: &mut visits,
         };
-        run_until(rt, alloc, serve, server, &mut visitors, options)
+        run_until(rt, serve, server, &mut visitors, options)
     }
 }
 
 // The same, into a log.
 fn serve_and_log<R: Files + Clock + Wait, K: Keeper, O: Write, E: Write>(
     rt: &R,
-    alloc: Global,
     serve: &mut Serve,
     server: &mut KeptServer<K>,
     options: &ServeOptions<'_>,
@@ -278,24 +276,24 @@ fn serve_and_log<R: Files + Clock + Wait, K: Keeper, O: Write, E: Write>(
 ) -> Result<(), ServeFault>
     ensures { ServesWith options.now serve.old (keeping K.kept server.old) (place O.contents output.old) (place O.contents output.new) result }
 {
-    let mut log = Log::new(alloc, rt, errors);
-    serve_and_tell(rt, alloc, serve, server, options, output, &mut log)
+    let mut log = Log::new(server.allocator(), rt, errors);
+    serve_and_tell(rt, serve, server, options, output, &mut log)
 }
 
 // Serves by this server, which knows no connection.
 fn serve_on<R: Files + Net + RandomSource + Clock + Wait, K: Keeper, O: Write, E: Write>(
     rt: &R,
-    alloc: Global,
     server: &mut KeptServer<K>,
     idle: u64,
     options: &ServeOptions<'_>,
     output: &mut Tap<O>,
     errors: &mut E,
-) -> Status
+) -> ExitStatus
     ensures { ServesOn (place O.contents output.old) (place O.contents output.new) idle options.now (keeping K.kept server.old) result }
 {
     let address = options.address;
     let port = options.port;
+    let alloc = server.allocator();
     let Ok(line) = listening_line(alloc, port) else {
         return no_memory(errors);
     };
@@ -311,8 +309,8 @@ fn serve_on<R: Files + Net + RandomSource + Clock + Wait, K: Keeper, O: Write, E
         }
     };
     match say(line.as_str(), output, errors) {
-        Status::Done => {
-            let ran = serve_and_log(rt, alloc, &mut serve, server, options, output, errors);
+        ExitStatus::Done => {
+            let ran = serve_and_log(rt, &mut serve, server, options, output, errors);
             served(ran, errors)
         }
         status => status,
@@ -353,11 +351,11 @@ fn kept_server<K: Keeper + Drop, E: Write>(
     space: Space,
     keeper: K,
     errors: &mut E,
-) -> Result<KeptServer<K>, Status>
-    ensures { MatchResult result (λ server. keeping K.kept server ≡ keeping_all (Some (opening config space)) (K.kept keeper)) (λ status. status ≡ Status.Halted) }
+) -> Result<KeptServer<K>, ExitStatus>
+    ensures { MatchResult result (λ server. keeping K.kept server ≡ keeping_all (Some (opening config space)) (K.kept keeper)) (λ status. status ≡ ExitStatus.Halted) }
 {
     match Server::new(alloc, config, space) {
-        Ok(server) => Ok(KeptServer::new(alloc, server, keeper)),
+        Ok(server) => Ok(KeptServer::new(server, keeper)),
         Err(_) => Err(no_memory(errors)),
     }
 }
@@ -388,7 +386,7 @@ fn stored_server<P: OpensStores, E: Write>(
     config: Config,
     space: Space,
     errors: &mut E,
-) -> Result<KeptServer<P::Store>, Status>
+) -> Result<KeptServer<P::Store>, ExitStatus>
     ensures { MatchResult result (λ server. BeginsWithStore config space (keeping P.Store.kept server)) IsUnopened }
 {
     let (store, kept) = match stores.open(alloc, path) {
@@ -408,19 +406,18 @@ fn stored_server<P: OpensStores, E: Write>(
 // Serves by a server that has begun, or ends as it didn't.
 fn serve_begun<R: Files + Net + RandomSource + Clock + Wait, K: Keeper + Drop, O: Write, E: Write>(
     rt: &R,
-    alloc: Global,
-    begun: Result<KeptServer<K>, Status>,
+    begun: Result<KeptServer<K>, ExitStatus>,
     idle: u64,
     options: &ServeOptions<'_>,
     output: &mut Tap<O>,
     errors: &mut E,
-) -> Status
+) -> ExitStatus
     ensures { let old = place O.contents output.old in
         let new = place O.contents output.new in
         MatchResult begun (λ server. ServesOn old new idle options.now (keeping K.kept server) result) (λ status. (result ≡ status) × (new ≡ old)) }
 {
     match begun {
-        Ok(mut server) => serve_on(rt, alloc, &mut server, idle, options, output, errors),
+        Ok(mut server) => serve_on(rt, &mut server, idle, options, output, errors),
         Err(status) => status,
     }
 }
@@ -448,7 +445,7 @@ pub fn serve<R: Files + Net + RandomSource + Clock + Wait, P: OpensStores, O: Wr
     options: &ServeOptions<'_>,
     output: &mut Tap<O>,
     errors: &mut E,
-) -> Status
+) -> ExitStatus
     ensures { ServesBy (place O.contents output.old) (place O.contents output.new) options.now made result }
 {
     let (config, space) = made;
@@ -460,11 +457,11 @@ pub fn serve<R: Files + Net + RandomSource + Clock + Wait, P: OpensStores, O: Wr
     match options.store {
         None => {
             let begun = kept_server(alloc, config, space, NoKeeper, errors);
-            serve_begun(rt, alloc, begun, idle, options, output, errors)
+            serve_begun(rt, begun, idle, options, output, errors)
         }
         Some(path) => {
             let begun = stored_server(stores, alloc, path, config, space, errors);
-            serve_begun(rt, alloc, begun, idle, options, output, errors)
+            serve_begun(rt, begun, idle, options, output, errors)
         }
     }
 }
@@ -474,11 +471,11 @@ fn serve_made<R: Files + Net + RandomSource + Clock + Wait, P: OpensStores, O: W
     rt: &R,
     stores: &P,
     alloc: Global,
-    made: Result<(Config, Space), Status>,
+    made: Result<(Config, Space), ExitStatus>,
     options: &ServeOptions<'_>,
     output: &mut Tap<O>,
     errors: &mut E,
-) -> Status
+) -> ExitStatus
     ensures { (said : Option Made) → MadeBy made said →
         ServesMade (place O.contents output.old) (place O.contents output.new) options.now said result }
 {

@@ -24,7 +24,7 @@ use Rattle.scenario_text.specs.declared.choices.ChannelRequest.TheVariants.{Issu
 use Rattle.scenario_text.specs.declared.fault.Cause.{Cause}
 use Rattle.scenario_text.specs.declared.fault.Cause.TheVariants.{Limit}
 use Rattle.scenario_text.specs.declared.scenario.Line.{Line}
-use Rattle.scenario_text.specs.declared.statement.Request.{Request}
+use Rattle.scenario_text.specs.declared.statement.SessionRequest.{SessionRequest}
 use Rattle.scenario_text.specs.declared.statement.Statement.{Statement}
 use Rattle.scenario_text.specs.declared.statement.Statement.TheVariants as statements
 use Rattle.scenario_text.specs.Messages.{opening_body, closing_body, request_body, IsServiceBody, IsOpeningBody, IsClosingBody}
@@ -187,7 +187,7 @@ same_token : (o : Option Session) → token_in o ≡ given_token o
 same_token None = refl
 same_token (Some s) = refl
 
-ask_read : (a : Assembler) (connection session : ℕ) (request : Request) → IsRead a (statements.Ask connection session request)
+ask_read : (a : Assembler) (connection session : ℕ) (request : SessionRequest) → IsRead a (statements.Ask connection session request)
     → (let id = (client_of a connection).request_id in
     IsServiceBody (session_header (counts_of a) session id) request (request_body (plain_request (token_at a session) id) request))
 ask_read a connection session request read =

@@ -6,7 +6,7 @@ use Rattle.scenario_text.specs.Scenarios.{scenario_of}
 use Rattle.scenario_text.specs.declared.choices.ChannelRequest.{ChannelRequest}
 use Rattle.scenario_text.specs.declared.fault.AsmFault.{AsmFault}
 use Rattle.scenario_text.specs.declared.scenario.Line.{Line}
-use Rattle.scenario_text.specs.declared.statement.Request.{Request}
+use Rattle.scenario_text.specs.declared.statement.SessionRequest.{SessionRequest}
 use Rattle.scenario_text.specs.declared.statement.Statement.{Statement}
 use Rattle.scenario_text.specs.declared.statement.Statement.TheVariants as statements
 
@@ -14,7 +14,7 @@ use Rattle.scenario_text.specs.declared.statement.Statement.TheVariants as state
 pub data Asking : Type 0 where
   Endpoints : Asking
   NewSession : Asking
-  Service : ℕ → Request → Asking
+  Service : ℕ → SessionRequest → Asking
 
 -- What happens: on a connection, whose number comes first, or as time passes, or at the server's end. A request may be given up.
 pub data Kind : Type 0 where

@@ -11,8 +11,8 @@ ghost use Rattle.scenario_run.specs.Members.{Assembles, nothing_sent, client_of 
 use crate::clients::{Client, closing, hello, new_client, opening, service};
 use collections::Numbered;
 use scenario_text::{
-    Cause, ChannelRequest, Request, Statement, create_session_body, endpoints_body, request_body,
-    request_header,
+    Cause, ChannelRequest, SessionRequest, Statement, create_session_body, endpoints_body,
+    request_body, request_header,
 };
 use server_core::Event;
 use std::alloc::{AllocError, Global};
@@ -204,7 +204,7 @@ impl Assembler {
         alloc: Global,
         connection: u64,
         session: u64,
-        request: Request,
+        request: SessionRequest,
     ) -> Result<Member, Cause>
         ensures given { Assembles Memory result self.new (assembled_of self.old (Ask connection session request)) }
         ensures read { OnOk result (IsRead self.old (Ask connection session request)) }

@@ -88,7 +88,6 @@ fn hold_step<W: Write>(
 
 // A run whose last lines may still be held.
 fn hold_run<W: Write>(
-    alloc: Global,
     lines: Lines,
     server: &mut Server,
     events: &[Event],
@@ -100,10 +99,11 @@ fn hold_run<W: Write>(
         (place W.contents writer.new) events.now (string_bytes held.new) }
     ensures rows { lines ≡ Rows → is_cut_short result ≡ false → string_bytes held.new ≡ [] }
 {
+    let alloc = server.allocator();
     let mut number: u64 = 0;
     for event in events {
         number += 1;
-        match server.step(alloc, event) {
+        match server.step(event) {
             Ok(step) => {
                 if let Err(fault) = hold_step(alloc, lines, number, &step, writer, held) {
                     return Err(RunFault::from(fault));
@@ -120,7 +120,6 @@ fn hold_run<W: Write>(
 ///
 /// At a fault the lines of all that was answered before it are out, unless the writer failed.
 pub fn print_run<W: Write>(
-    alloc: Global,
     lines: Lines,
     server: &mut Server,
     events: &[Event],
@@ -128,8 +127,8 @@ pub fn print_run<W: Write>(
 ) -> Result<(), RunFault>
     ensures { RunPrinted lines result (world_of server.old) (world_of server.new) (place W.contents writer.old) (place W.contents writer.new) events.now [] }
 {
-    let mut held = String::new(alloc);
-    let ran = hold_run(alloc, lines, server, events, writer, &mut held);
+    let mut held = String::new(server.allocator());
+    let ran = hold_run(lines, server, events, writer, &mut held);
     if is_cut_short(&ran) {
         return ran;
     }

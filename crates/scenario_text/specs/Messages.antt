@@ -50,8 +50,8 @@ use Rattle.scenario_text.specs.declared.requests.NewItem.{NewItem}
 use Rattle.scenario_text.specs.declared.requests.NewValue.{NewValue}
 use Rattle.scenario_text.specs.declared.requests.RawValues.{RawValues}
 use Rattle.scenario_text.specs.declared.requests.References.{References}
-use Rattle.scenario_text.specs.declared.statement.Request.{Request}
-use Rattle.scenario_text.specs.declared.statement.Request.TheVariants as requests
+use Rattle.scenario_text.specs.declared.statement.SessionRequest.{SessionRequest}
+use Rattle.scenario_text.specs.declared.statement.SessionRequest.TheVariants as requests
 use Rattle.scenario_text.specs.Bodies.{IsWholeBody, IsWholeRequest, request_encoding}
 use Rattle.scenario_text.specs.Structures.{no_duration, no_time, no_object, no_signature, no_application, is_delete, is_on, request_type, attribute_sent, value_sent, description_sent, point_sent, details_sent, history_node_sent, new_item_sent, changed_item_sent, acknowledgement_sent, Links, links_of}
 
@@ -239,7 +239,7 @@ unfoldable pub delete_subscriptions_body : RequestHeader → List ℕ → List �
 delete_subscriptions_body header subscriptions = request_encoding delete_subscriptions_request_encoding DELETE_SUBSCRIPTIONS_REQUEST header (delete_subscriptions_fields subscriptions)
 
 -- the body of what a session asks, with this header
-unfoldable pub request_body : RequestHeader → Request → List ℕ
+unfoldable pub request_body : RequestHeader → SessionRequest → List ℕ
 request_body header requests.ActivateSession = activate_session_body header
 request_body header (requests.CloseSession subscriptions) = close_session_body header subscriptions
 request_body header (requests.Read timestamps attributes range) = read_body header timestamps attributes range
@@ -261,7 +261,7 @@ request_body header (requests.Republish subscription sequence_number) = republis
 request_body header (requests.DeleteSubscriptions subscriptions) = delete_subscriptions_body header subscriptions
 
 -- The body is the id of the request's type and its structure, is read again as that, and nothing is behind it.
-abbrev pub IsServiceBody : RequestHeader → Request → List ℕ → Type 0
+abbrev pub IsServiceBody : RequestHeader → SessionRequest → List ℕ → Type 0
 IsServiceBody header requests.ActivateSession body = IsWholeRequest activate_session_request_reading ACTIVATE_SESSION_REQUEST header activate_session_fields body
 IsServiceBody header (requests.CloseSession subscriptions) body = IsWholeRequest close_session_request_reading CLOSE_SESSION_REQUEST header (close_session_fields subscriptions) body
 IsServiceBody header (requests.Read timestamps attributes range) body = IsWholeRequest read_request_reading READ_REQUEST header (read_fields timestamps attributes range) body

@@ -12,8 +12,8 @@ use Rattle.scenario_text.specs.Words.{word, end_of_line}
 use Rattle.scenario_text.specs.declared.fault.Cause.{Cause}
 use Rattle.scenario_text.specs.declared.fault.Cause.TheVariants.{Number, NoConnection}
 use Rattle.scenario_text.specs.declared.known.Known.{Known}
-use Rattle.scenario_text.specs.declared.statement.Request.{Request}
-use Rattle.scenario_text.specs.declared.statement.Request.TheVariants as requests
+use Rattle.scenario_text.specs.declared.statement.SessionRequest.{SessionRequest}
+use Rattle.scenario_text.specs.declared.statement.SessionRequest.TheVariants as requests
 use Rattle.scenario_text.specs.declared.statement.Statement.{Statement}
 use Rattle.scenario_text.specs.declared.statement.Statement.TheVariants as statements
 use Rattle.scenario_text.specs.declared.verbs.RequestVerb.{RequestVerb}
@@ -81,7 +81,7 @@ front_reading known = while_more (front known) tt
 -- ---- what a line says
 
 -- what a session asks, where this range is set for the next read or write
-unfoldable pub request_reading : Option (List ℕ) → RequestVerb → Reading Request
+unfoldable pub request_reading : Option (List ℕ) → RequestVerb → Reading SessionRequest
 request_reading range asked.ActivateSession = done requests.ActivateSession
 request_reading range asked.CloseSession = do
   subscriptions ← subscriptions_reading
@@ -242,7 +242,7 @@ statement_of known line = without_rest (line_reading known line)
 -- ---- what is known after it
 
 -- a read or a write uses the range up that was set for it
-abbrev pub uses_range : Request → Bool
+abbrev pub uses_range : SessionRequest → Bool
 uses_range (requests.Read timestamps attributes range) = true
 uses_range (requests.Write values range) = true
 uses_range _ = false

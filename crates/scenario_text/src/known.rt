@@ -15,7 +15,7 @@ use crate::requests::{
     Acknowledgement, Attribute, ChangedItem, Counts, LinkChange, NewItem, NewValue, RawValues,
     References,
 };
-use crate::statement::{Request, Statement};
+use crate::statement::{SessionRequest, Statement};
 use crate::values::{key, octets, range};
 use crate::verbs::{RequestVerb, Verb, verb_of};
 use crate::words::Words;
@@ -43,87 +43,87 @@ fn request(
     range: &Text,
     verb: RequestVerb,
     words: &mut Words<'_>,
-) -> Result<Request, Cause>
+) -> Result<SessionRequest, Cause>
     ensures { Reads result words.new (request_reading range.now verb words.old) }
 {
     match verb {
-        RequestVerb::ActivateSession => Ok(Request::ActivateSession),
-        RequestVerb::CloseSession => Ok(Request::CloseSession {
+        RequestVerb::ActivateSession => Ok(SessionRequest::ActivateSession),
+        RequestVerb::CloseSession => Ok(SessionRequest::CloseSession {
             subscriptions: Subscriptions::read(alloc, words)?,
         }),
-        RequestVerb::Read => Ok(Request::Read {
+        RequestVerb::Read => Ok(SessionRequest::Read {
             timestamps: i32::read(alloc, words)?,
             attributes: Listed::<Attribute>::read(alloc, words)?,
             range: range.copy(alloc)?,
         }),
-        RequestVerb::Write => Ok(Request::Write {
+        RequestVerb::Write => Ok(SessionRequest::Write {
             values: Listed::<NewValue>::read(alloc, words)?,
             range: range.copy(alloc)?,
         }),
-        RequestVerb::Browse => Ok(Request::Browse {
+        RequestVerb::Browse => Ok(SessionRequest::Browse {
             references: References::read(alloc, words)?,
         }),
-        RequestVerb::BrowseNext => Ok(Request::BrowseNext {
+        RequestVerb::BrowseNext => Ok(SessionRequest::BrowseNext {
             points: Listed::<u64>::read(alloc, words)?,
         }),
-        RequestVerb::ReleasePoints => Ok(Request::ReleasePoints {
+        RequestVerb::ReleasePoints => Ok(SessionRequest::ReleasePoints {
             points: Listed::<u64>::read(alloc, words)?,
         }),
-        RequestVerb::ReadHistory => Ok(Request::ReadHistory {
+        RequestVerb::ReadHistory => Ok(SessionRequest::ReadHistory {
             values: RawValues::read(alloc, words)?,
         }),
-        RequestVerb::CreateSubscription => Ok(Request::CreateSubscription {
+        RequestVerb::CreateSubscription => Ok(SessionRequest::CreateSubscription {
             counts: Counts::read(alloc, words)?,
             publishing: Publishing::read(alloc, words)?,
         }),
-        RequestVerb::ModifySubscription => Ok(Request::ModifySubscription {
+        RequestVerb::ModifySubscription => Ok(SessionRequest::ModifySubscription {
             subscription: u32::read(alloc, words)?,
             counts: Counts::read(alloc, words)?,
         }),
-        RequestVerb::SetPublishing => Ok(Request::SetPublishing {
+        RequestVerb::SetPublishing => Ok(SessionRequest::SetPublishing {
             publishing: Publishing::read(alloc, words)?,
             subscriptions: Listed::<u32>::read(alloc, words)?,
         }),
-        RequestVerb::CreateItem => Ok(Request::CreateItem {
+        RequestVerb::CreateItem => Ok(SessionRequest::CreateItem {
             item: NewItem::read(alloc, words)?,
         }),
-        RequestVerb::ModifyItem => Ok(Request::ModifyItem {
+        RequestVerb::ModifyItem => Ok(SessionRequest::ModifyItem {
             item: ChangedItem::read(alloc, words)?,
         }),
-        RequestVerb::SetItemMode => Ok(Request::SetItemMode {
+        RequestVerb::SetItemMode => Ok(SessionRequest::SetItemMode {
             subscription: u32::read(alloc, words)?,
             mode: i32::read(alloc, words)?,
             items: Listed::<u32>::read(alloc, words)?,
         }),
-        RequestVerb::SetTriggering => Ok(Request::SetTriggering {
+        RequestVerb::SetTriggering => Ok(SessionRequest::SetTriggering {
             subscription: u32::read(alloc, words)?,
             triggering: u32::read(alloc, words)?,
             changes: Listed::<LinkChange>::read(alloc, words)?,
         }),
-        RequestVerb::DeleteItems => Ok(Request::DeleteItems {
+        RequestVerb::DeleteItems => Ok(SessionRequest::DeleteItems {
             subscription: u32::read(alloc, words)?,
             items: Listed::<u32>::read(alloc, words)?,
         }),
-        RequestVerb::Publish => Ok(Request::Publish {
+        RequestVerb::Publish => Ok(SessionRequest::Publish {
             acknowledgements: Listed::<Acknowledgement>::read(alloc, words)?,
         }),
-        RequestVerb::Republish => Ok(Request::Republish {
+        RequestVerb::Republish => Ok(SessionRequest::Republish {
             subscription: u32::read(alloc, words)?,
             sequence_number: u32::read(alloc, words)?,
         }),
-        RequestVerb::DeleteSubscriptions => Ok(Request::DeleteSubscriptions {
+        RequestVerb::DeleteSubscriptions => Ok(SessionRequest::DeleteSubscriptions {
             subscriptions: Listed::<u32>::read(alloc, words)?,
         }),
     }
 }
 
 // Whether it is a read or a write, which uses the range up that was set for it.
-fn uses_range(request: &Request) -> bool
+fn uses_range(request: &SessionRequest) -> bool
     ensures { result ≡ uses_range request.now }
 {
     match request {
-        Request::Read { .. } => true,
-        Request::Write { .. } => true,
+        SessionRequest::Read { .. } => true,
+        SessionRequest::Write { .. } => true,
         _ => false,
     }
 }

@@ -50,5 +50,5 @@ pub use requests::{
 };
 pub use scenario::{Line, Scenario, read, readable};
 pub use sent::Sent;
-pub use statement::{Request, Statement};
+pub use statement::{SessionRequest, Statement};
 pub use structures::request_header;

@@ -22,7 +22,7 @@ use crate::requests::{
     References,
 };
 use crate::sent::{Ranged, held, list, one, ranged_list};
-use crate::statement::Request;
+use crate::statement::SessionRequest;
 use crate::structures::{
     NO_DURATION, history_details, is_delete, is_on, last_point, no_name, no_object, no_signature,
     parameters,
@@ -446,43 +446,47 @@ fn delete_subscriptions_body(
 pub fn request_body(
     alloc: Global,
     header: RequestHeader,
-    request: Request,
+    request: SessionRequest,
 ) -> Result<Vec<u8>, AllocError>
     ensures ok { IfOk result (λ bytes. bytes.items ≡ request_body header request) }
     ensures again { IfOk result (λ bytes. IsServiceBody header request bytes.items) }
 {
     match request {
-        Request::ActivateSession => activate_session_body(alloc, header),
-        Request::CloseSession { subscriptions } => close_session_body(alloc, header, subscriptions),
-        Request::Read {
+        SessionRequest::ActivateSession => activate_session_body(alloc, header),
+        SessionRequest::CloseSession { subscriptions } => close_session_body(
+            alloc,
+            header,
+            subscriptions,
+        ),
+        SessionRequest::Read {
             timestamps,
             attributes,
             range,
         } => read_body(alloc, header, timestamps, attributes, range),
-        Request::Write { values, range } => write_body(alloc, header, values, range),
-        Request::Browse { references } => browse_body(alloc, header, references),
-        Request::BrowseNext { points } => browse_next_body(alloc, header, false, points),
-        Request::ReleasePoints { points } => browse_next_body(alloc, header, true, points),
-        Request::ReadHistory { values } => history_body(alloc, header, values),
-        Request::CreateSubscription { counts, publishing } => {
+        SessionRequest::Write { values, range } => write_body(alloc, header, values, range),
+        SessionRequest::Browse { references } => browse_body(alloc, header, references),
+        SessionRequest::BrowseNext { points } => browse_next_body(alloc, header, false, points),
+        SessionRequest::ReleasePoints { points } => browse_next_body(alloc, header, true, points),
+        SessionRequest::ReadHistory { values } => history_body(alloc, header, values),
+        SessionRequest::CreateSubscription { counts, publishing } => {
             create_subscription_body(alloc, header, counts, publishing)
         }
-        Request::ModifySubscription {
+        SessionRequest::ModifySubscription {
             subscription,
             counts,
         } => modify_subscription_body(alloc, header, subscription, counts),
-        Request::SetPublishing {
+        SessionRequest::SetPublishing {
             publishing,
             subscriptions,
         } => set_publishing_body(alloc, header, publishing, subscriptions),
-        Request::CreateItem { item } => create_item_body(alloc, header, item),
-        Request::ModifyItem { item } => modify_item_body(alloc, header, item),
-        Request::SetItemMode {
+        SessionRequest::CreateItem { item } => create_item_body(alloc, header, item),
+        SessionRequest::ModifyItem { item } => modify_item_body(alloc, header, item),
+        SessionRequest::SetItemMode {
             subscription,
             mode,
             items,
         } => set_item_mode_body(alloc, header, subscription, mode, items),
-        Request::SetTriggering {
+        SessionRequest::SetTriggering {
             subscription,
             triggering,
             changes,
@@ -493,16 +497,20 @@ pub fn request_body(
             triggering,
             changes,
         ),
-        Request::DeleteItems {
+        SessionRequest::DeleteItems {
             subscription,
             items,
         } => delete_items_body(alloc, header, subscription, items),
-        Request::Publish { acknowledgements } => publish_body(alloc, header, acknowledgements),
-        Request::Republish {
+        SessionRequest::Publish { acknowledgements } => publish_body(
+            alloc,
+            header,
+            acknowledgements,
+        ),
+        SessionRequest::Republish {
             subscription,
             sequence_number,
         } => republish_body(alloc, header, SubscriptionId(subscription), sequence_number),
-        Request::DeleteSubscriptions { subscriptions } => {
+        SessionRequest::DeleteSubscriptions { subscriptions } => {
             delete_subscriptions_body(alloc, header, subscriptions)
         }
     }

@@ -9,7 +9,7 @@ use ua_types::{Listed, Moment, Text};
 
 /// What a session asks of the server (IEC 62541-4, section 5).
 #[derive(Debug, Drop)]
-pub enum Request {
+pub enum SessionRequest {
     /// `activate c s`
     ActivateSession,
     /// `close c s delete|keep`
@@ -167,6 +167,6 @@ pub enum Statement {
     Ask {
         connection: u64,
         session: u64,
-        request: Request,
+        request: SessionRequest,
     },
 }

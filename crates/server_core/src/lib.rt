@@ -9,7 +9,7 @@
 //! ```text
 //! let mut server = Server::new(alloc, config, space)?;
 //! while let Some(event) = sockets.next_event() {
-//!     let step = server.step(alloc, &event)?;
+//!     let step = server.step(&event)?;
 //!     for out in step.outs.as_slice() {
 //!         match out {
 //!             Out::Send { conn, bytes } => sockets.write(*conn, bytes.as_slice())?,

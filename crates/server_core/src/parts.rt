@@ -48,7 +48,7 @@ impl Core {
                 Ok(false)
             }
             FrameOutcome::Request(request) => {
-                let served = self.services.serve(alloc, &self.setting, &request)?;
+                let served = self.services.serve(&self.setting, &request)?;
                 let Served {
                     replies,
                     rows,
@@ -135,7 +135,7 @@ impl Core {
         ensures idle { is_idle (setting_at self.old clock) self.old.services ≡ true → IsOk result }
     {
         self.setting.clock = clock;
-        let served = self.services.tick(alloc, &self.setting)?;
+        let served = self.services.tick(&self.setting)?;
         let mut step = Step::new(alloc);
         let Served {
             replies,
@@ -155,7 +155,7 @@ impl Core {
         ensures { Ends result self.new (shut_core self.old) }
     {
         self.is_shut = true;
-        let served = self.services.shut_down(alloc, &self.setting)?;
+        let served = self.services.shut_down(&self.setting)?;
         let mut step = Step::new(alloc);
         let Served {
             replies,

@@ -30,12 +30,13 @@ use ua_types::{Config, Listed};
 pub struct Server {
     // None for good once it is halted.
     world: Option<World>,
+    alloc: Global,
 }
 
 // Written out, so that a proof sees a drop as one call and not as its cases.
 impl Drop for Server {
     fn drop(self) {
-        let Server { world: _ } = self;
+        let Server { world: _, alloc: _ } = self;
     }
 }
 
@@ -68,7 +69,13 @@ impl Server {
                     is_shut: false,
                 },
             }),
+            alloc,
         })
+    }
+
+    /// From where the server takes memory.
+    pub fn allocator(&self) -> Global {
+        self.alloc
     }
 
     /// Takes an event, and says what is to be done about it. `specs/Stepping` defines both the answer
@@ -79,7 +86,7 @@ impl Server {
     /// connection that is closed, is `Gone`, is a `Tick` at which nothing is due, or is a second `Shutdown`. `Exhausted` comes
     /// only where the event passes the last serial of 64 bits, and no such event is answered. Both halt the server, which answers
     /// `Halted` from then on, and at no other time.
-    pub fn step(&mut self, alloc: Global, event: &Event) -> Result<Step, StepFault>
+    pub fn step(&mut self, event: &Event) -> Result<Step, StepFault>
         ensures step { StepsTo result (world_of self.old) (world_of self.new) (step_on (world_of self.old) event.now) }
         ensures memory { result ≡ Err step_fault.Memory → takes_no_memory_on (world_of self.old) event.now ≡ false }
         ensures counted { IfOk result (λ step. IsUnspent (step_on (world_of self.old) event.now)) }
@@ -87,7 +94,7 @@ impl Server {
         let Some(world) = &mut self.world else {
             return Err(StepFault::Halted);
         };
-        let answer = world.step(alloc, event);
+        let answer = world.step(self.alloc, event);
         if matches!(&answer, Err(StepFault::Memory | StepFault::Exhausted)) {
             let_go(&mut self.world);
         }
@@ -98,15 +105,15 @@ impl Server {
     ///
     /// Room for an answer is taken before its event is. Where that growth is refused, the fault is
     /// `Memory` too, and the server is halted.
-    pub fn run(&mut self, alloc: Global, events: &[Event]) -> Ran
+    pub fn run(&mut self, events: &[Event]) -> Ran
         ensures { Runs result.fault result.steps (world_of self.old) events.now (world_of self.new) }
     {
-        let mut steps = Listed::new(alloc);
+        let mut steps = Listed::new(self.alloc);
         for event in events {
             if steps.reserve_one().is_err() {
                 return self.halt(steps);
             }
-            match self.step(alloc, event) {
+            match self.step(event) {
                 Ok(step) => {
                     if steps.push(step).is_err() {
                         return self.halt(steps);
@@ -139,15 +146,19 @@ impl Server {
 
     /// The numbers of the messages that a subscription keeps until they are acknowledged, in the order in which they were
     /// sent; none where there is no such subscription, or the server is halted.
-    pub fn kept_numbers(&self, alloc: Global, number: u32) -> Result<Vec<u32>, AllocError>
+    pub fn kept_numbers(&self, number: u32) -> Result<Vec<u32>, AllocError>
         ensures numbers { IfOk result (λ numbers. numbers.items ≡ kept_numbers_on (world_of self.now) number) }
         ensures halted { world_of self.now ≡ None → IsOk result }
     {
         match &self.world {
-            None => Ok(Vec::new(alloc)),
+            None => Ok(Vec::new(self.alloc)),
             Some(world) => {
                 let subscription = SubscriptionId(number);
-                world.core.services.subs.kept_numbers(alloc, subscription)
+                world
+                    .core
+                    .services
+                    .subs
+                    .kept_numbers(self.alloc, subscription)
             }
         }
     }

@@ -20,15 +20,15 @@ pub(crate) fn opened(conn: u64) -> Event {
     Event::Opened { conn, key: [0; 32] }
 }
 
-fn ends_at_its_first_fault(rt: &impl Abort, alloc: Global, server: &mut Server) {
-    let gone = server.step(alloc, &Event::Gone { conn: 1 });
+fn ends_at_its_first_fault(rt: &impl Abort, server: &mut Server) {
+    let gone = server.step(&Event::Gone { conn: 1 });
     holds(
         rt,
         "unknown",
         matches!(gone, Err(StepFault::UnknownConnection)),
     );
     let events = [opened(1), opened(1), Event::Tick { now: Moment(8) }];
-    let ran = server.run(alloc, &events);
+    let ran = server.run(&events);
     holds(
         rt,
         "known",
@@ -41,6 +41,6 @@ fn ends_at_its_first_fault(rt: &impl Abort, alloc: Global, server: &mut Server) 
 fn a_run_ends_at_its_first_fault(rt: HostRuntime) -> Result<(), Fail> {
     let alloc = rt.alloc();
     let mut server = base_server(alloc)?;
-    ends_at_its_first_fault(&rt, alloc, &mut server);
+    ends_at_its_first_fault(&rt, &mut server);
     Ok(())
 }

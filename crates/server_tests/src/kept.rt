@@ -66,20 +66,20 @@ fn is_republished(alloc: Global, server: &mut Server) -> Result<bool, Fail> {
     let Ok(events) = assemble(alloc, KEEPS_MESSAGES) else {
         return Err(Fail::new("not assembled"));
     };
-    let ran = server.run(alloc, events.as_slice());
+    let ran = server.run(events.as_slice());
     Ok(is_same(server, &ran))
 }
 
 // Whether the messages 2 and 3 are kept.
-fn are_others_kept(alloc: Global, server: &Server) -> Result<bool, Fail> {
-    let numbers = server.kept_numbers(alloc, 1)?;
+fn are_others_kept(server: &Server) -> Result<bool, Fail> {
+    let numbers = server.kept_numbers(1)?;
     Ok(numbers.as_slice() == [2, 3].as_slice())
 }
 
 fn tells(rt: &impl Abort, alloc: Global, server: &mut Server) -> Result<(), Fail> {
     holds(rt, "the second again", is_republished(alloc, server)?);
     holds(rt, "where it stands", is_normal(server));
-    holds(rt, "the others", are_others_kept(alloc, server)?);
+    holds(rt, "the others", are_others_kept(server)?);
     Ok(())
 }
 

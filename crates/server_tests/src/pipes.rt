@@ -2,7 +2,7 @@
 
 use crate::bytes_due::{ACKNOWLEDGE, HELLO};
 use crate::holding::holds;
-use commands::Status;
+use commands::ExitStatus;
 use server_core::StepFault;
 use std::alloc::Global;
 use std::fs;
@@ -26,7 +26,7 @@ fn answers<R: Files + AllocGlobal + Net + RandomSource + Clock + Wait>(
     let mut output = Tap::new(Vec::new(rt.alloc()));
     let mut errors = Vec::new(rt.alloc());
     let ended = commands::run(rt, &NoStores, words, &mut input, &mut output, &mut errors);
-    matches!(ended.status, Status::Done)
+    matches!(ended.status, ExitStatus::Done)
         && errors.is_empty()
         && output.into_inner().as_slice() == due
 }
@@ -61,7 +61,7 @@ fn hello_over_a_pipe(rt: HostRuntime) -> Result<(), Fail> {
 fn is_told(alloc: Global, fault: StepFault, due: &[u8]) -> bool {
     let mut errors = Vec::new(alloc);
     let status = commands::step_fault(fault, &mut errors);
-    matches!(status, Status::Halted) && errors.as_slice() == due
+    matches!(status, ExitStatus::Halted) && errors.as_slice() == due
 }
 
 // No client and no scenario brings about those but `Memory`.
@@ -82,7 +82,7 @@ fn faults_of_steps(rt: HostRuntime) {
 #[test]
 fn exit_statuses(rt: HostRuntime) {
     // Those that no example shows.
-    holds(&rt, "halted", Status::Halted.code() == 5);
-    holds(&rt, "network", Status::Network.code() == 6);
-    holds(&rt, "stream", Status::Stream.code() == 7);
+    holds(&rt, "halted", ExitStatus::Halted.code() == 5);
+    holds(&rt, "network", ExitStatus::Network.code() == 6);
+    holds(&rt, "stream", ExitStatus::Stream.code() == 7);
 }

@@ -35,7 +35,7 @@ fn is_answered(read: &[u8]) -> bool {
 
 // A server whose values nobody keeps.
 fn unkept_server(alloc: Global) -> Result<KeptServer<NoKeeper>, Fail> {
-    Ok(KeptServer::new(alloc, base_server(alloc)?, NoKeeper))
+    Ok(KeptServer::new(base_server(alloc)?, NoKeeper))
 }
 
 // A client that has said this.

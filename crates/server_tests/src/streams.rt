@@ -111,32 +111,26 @@ fn end_of(ran: Result<(), PumpFault>) -> End {
 }
 
 // How a run of the pump ends on a connection that it opens, how many bytes it counts, and what the sink knows.
-fn pumped(
-    alloc: Global,
-    server: &mut Server,
-    source: Source,
-    sink: Sink,
-) -> Result<(End, u128, Sink), Fail> {
-    if server.step(alloc, &opened(1)).is_err() {
+fn pumped(server: &mut Server, source: Source, sink: Sink) -> Result<(End, u128, Sink), Fail> {
+    if server.step(&opened(1)).is_err() {
         return Err(Fail::new("not opened"));
     }
     let mut reader = Tap::new(source);
     let mut writer = Tap::new(sink);
     let mut pump = Pump::new();
-    let end = end_of(pump.run(alloc, server, 1, &mut reader, &mut writer));
+    let end = end_of(pump.run(server, 1, &mut reader, &mut writer));
     Ok((end, pump.sent(), writer.into_inner()))
 }
 
 // `ends`, with this server.
 fn ends_on(
-    alloc: Global,
     server: &mut Server,
     source: Source,
     sink: Sink,
     end: End,
     count: usize,
 ) -> Result<bool, Fail> {
-    let (ended, counted, sink) = pumped(alloc, server, source, sink)?;
+    let (ended, counted, sink) = pumped(server, source, sink)?;
     let is_flushed = ended != End::Done || sink.flushed == count;
     Ok(ended == end && is_flushed && sink.is_due && sink.taken == count && counted == count as u128)
 }
@@ -145,7 +139,7 @@ fn ends_on(
 // are flushed at the end.
 fn ends(alloc: Global, source: Source, sink: Sink, end: End, count: usize) -> Result<bool, Fail> {
     let mut server = base_server(alloc)?;
-    ends_on(alloc, &mut server, source, sink, end, count)
+    ends_on(&mut server, source, sink, end, count)
 }
 
 // How many bytes answer the first so many bytes of the requests.

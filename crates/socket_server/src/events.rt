@@ -136,7 +136,12 @@ fn admit<S: Socket + Drop, K: Keeper, W: Observer>(
         MatchResult result (λ _. Does S.remaining S.contents S.calls W.text (Connects arrival.address_bits arrival.key) old new) (Stops S.remaining S.contents S.calls W.text old new) }
 {
     if peers
-        .admit(server.alloc, arrival.number, arrival.address_bits, stream)
+        .admit(
+            server.allocator(),
+            arrival.number,
+            arrival.address_bits,
+            stream,
+        )
         .is_err()
     {
         return Err(ServeFault::Memory);
@@ -184,7 +189,7 @@ fn hear<S: Socket + Drop, K: Keeper, W: Observer>(
         let new = scene keys (keeping K.kept server.new) peers.new events.new (W.output observer.new) in
         MatchResult result (λ more. GoesOn S.remaining S.contents S.calls W.text number old new more) (Stops S.remaining S.contents S.calls W.text old new) }
 {
-    let mut piece = Vec::new(server.alloc);
+    let mut piece = Vec::new(server.allocator());
     let Ok(heard) = peers.read(number, &mut piece) else {
         return Err(ServeFault::Memory);
     };
@@ -421,7 +426,7 @@ pub(crate) fn attend_all<S: Socket + Drop, K: Keeper, W: Observer>(
         Ok(()) => {}
         Err(fault) => return Err(fault),
     }
-    let awake = peers.take_awake(server.alloc);
+    let awake = peers.take_awake(server.allocator());
     for group in awake.chunks(GROUP) {
         match attend_each(peers, events, server, observer, group) {
             Ok(()) => {}
@@ -525,7 +530,7 @@ pub(crate) fn sweep<S: Socket + Drop, K: Keeper, W: Observer>(
     if !peers.is_sweep_due() {
         return Ok(());
     }
-    let Ok(numbers) = peers.begin_sweep(server.alloc) else {
+    let Ok(numbers) = peers.begin_sweep(server.allocator()) else {
         return Err(ServeFault::Memory);
     };
     expire_each(peers, events, server, observer, numbers.as_slice())

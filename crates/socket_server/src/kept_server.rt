@@ -17,8 +17,6 @@ use ua_types::Listed;
 /// is kept.
 #[derive(Drop)]
 pub struct KeptServer<K> {
-    // Whose memory all that is served takes.
-    pub(crate) alloc: Global,
     server: Server,
     keeper: K,
     // In the order in which it was stored.
@@ -36,15 +34,20 @@ pub(crate) struct Answer {
 
 impl<K: Keeper> KeptServer<K> {
     /// This server, and who keeps what it stores from now on. Takes no memory.
-    pub fn new(alloc: Global, server: Server, keeper: K) -> KeptServer<K>
+    pub fn new(server: Server, keeper: K) -> KeptServer<K>
         ensures { keeping K.kept result ≡ keeping_all (world_of server) (K.kept keeper) }
     {
+        let waiting = Vec::new(server.allocator());
         KeptServer {
-            alloc,
             server,
             keeper,
-            waiting: Vec::new(alloc),
+            waiting,
         }
+    }
+
+    /// From where all that is served takes memory.
+    pub fn allocator(&self) -> Global {
+        self.server.allocator()
     }
 
     /// The server itself.
@@ -58,7 +61,7 @@ impl<K: Keeper> KeptServer<K> {
     pub(crate) fn step(&mut self, event: &Event) -> Result<Answer, ServeFault>
         ensures { Steps event.now (keeping K.kept self.old) (keeping K.kept self.new) result }
     {
-        let step = match self.server.step(self.alloc, event) {
+        let step = match self.server.step(event) {
             Ok(step) => step,
             Err(fault) => return Err(ServeFault::Step(fault)),
         };

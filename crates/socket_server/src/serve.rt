@@ -343,7 +343,7 @@ impl Serve {
     {
         match self.take_turn(rt, server, observer) {
             Ok(()) => {
-                observer.turned(server.alloc, self, server.server());
+                observer.turned(server.allocator(), self, server.server());
                 Ok(())
             }
             Err(fault) => {

@@ -196,7 +196,6 @@ impl Pump {
     /// One read, and what follows from it. Says whether there may be more.
     fn turn<R: Read, W: Write>(
         &mut self,
-        alloc: Global,
         server: &mut Server,
         conn: u64,
         reader: &mut Tap<R>,
@@ -208,7 +207,7 @@ impl Pump {
             MatchResult result (λ more. MatchBool more (Goes 1 conn old new) (Done conn old new)) (Stopped conn old new) }
         ensures no_turns { result ≢ Err PumpFault.Turns }
     {
-        let Ok(mut piece) = vec![in alloc; 0u8; PIECE] else {
+        let Ok(mut piece) = vec![in server.allocator(); 0u8; PIECE] else {
             return Err(PumpFault::Step(StepFault::Memory));
         };
         match read_piece(reader, &mut piece) {
@@ -225,8 +224,8 @@ impl Pump {
             return Err(PumpFault::Step(StepFault::Memory));
         };
         let event = Event::Bytes { conn, bytes };
-        match server.step(alloc, &event) {
-            Ok(step) => self.answer(alloc, conn, step.outs.as_slice(), writer),
+        match server.step(&event) {
+            Ok(step) => self.answer(server.allocator(), conn, step.outs.as_slice(), writer),
             Err(fault) => Err(PumpFault::Step(fault)),
         }
     }
@@ -245,7 +244,6 @@ impl Pump {
     /// was refused. `Turns` comes after 10^9 reads.
     pub fn run<R: Read, W: Write>(
         &mut self,
-        alloc: Global,
         server: &mut Server,
         conn: u64,
         reader: &mut Tap<R>,
@@ -257,7 +255,7 @@ impl Pump {
     {
         self.sent = 0;
         for _read in 0..READS {
-            match self.turn(alloc, server, conn, reader, writer) {
+            match self.turn(server, conn, reader, writer) {
                 Ok(true) => {}
                 Ok(false) => return Ok(()),
                 Err(fault) => return Err(fault),

@@ -35,13 +35,13 @@ use ua_types::DataValue;
 /// Beside them there is a count for each subscription, so whether one has something to send is told without a
 /// look at its items.
 #[derive(Drop)]
-pub struct Numbered {
+pub struct CountedItems {
     items: Slots<Item>,
     // How many of a subscription's items have a value to send. Each subscription with an item has its count here.
     counts: BTreeMap<u32, usize>,
 }
 
-impl Model for Numbered {
+impl Model for CountedItems {
     ghost use Rattle.ua_monitored_items.specs.Counts.{AreCounts};
     ghost use Rattle.ua_monitored_items.specs.ItemTables.{NumberedItems};
 
@@ -169,12 +169,12 @@ fn visit_at(
     }))
 }
 
-impl Numbered {
+impl CountedItems {
     /// No item. Takes no memory.
-    pub fn new(alloc: Global) -> Numbered
+    pub fn new(alloc: Global) -> CountedItems
         ensures { result ≡ [] }
     {
-        Numbered {
+        CountedItems {
             items: Slots::new(alloc),
             counts: BTreeMap::new(alloc),
         }

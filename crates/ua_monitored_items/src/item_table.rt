@@ -15,12 +15,12 @@ ghost use Rattle.ua_monitored_items.specs.Releases.{all_released, shown_one, sho
 ghost use Rattle.ua_monitored_items.specs.Taking.{TakenSome};
 ghost use Rattle.ua_subscription_messages.specs.DataChangeMessages.{with_notes};
 
+use crate::counted_items::CountedItems;
 use crate::index::{Index, put_in, take_out};
 use crate::item::Item;
 use crate::kinds::Mode;
 use crate::links::Links;
 use crate::notes::{copy_all, send_all};
-use crate::numbered::Numbered;
 use crate::preparing::Modification;
 use crate::releases::Releases;
 use crate::sampling::{release_all, sample_all, show_node};
@@ -43,7 +43,7 @@ use ua_types::{Copyable, DataValue, NodeId};
 #[derive(Drop)]
 pub struct ItemTable {
     made: u32,
-    items: Numbered,
+    items: CountedItems,
     of_subscription: Index<u32>,
     on_node: Index<NodeId>,
 }
@@ -120,7 +120,7 @@ impl ItemTable {
     {
         ItemTable {
             made: 0,
-            items: Numbered::new(alloc),
+            items: CountedItems::new(alloc),
             of_subscription: BTreeMap::new(alloc),
             on_node: BTreeMap::new(alloc),
         }

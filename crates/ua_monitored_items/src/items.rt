@@ -63,6 +63,7 @@ pub struct Items {
     // The sampling interval that clients are told.
     interval: Duration,
     table: ItemTable,
+    alloc: Global,
 }
 
 impl Model for Items {
@@ -119,7 +120,13 @@ impl Items {
             longest: config.queue,
             interval: config.sampling_duration,
             table: ItemTable::new(alloc),
+            alloc,
         }
+    }
+
+    /// From where the items take memory.
+    pub fn allocator(&self) -> Global {
+        self.alloc
     }
 
     /// How many items there are.
@@ -185,7 +192,6 @@ impl Items {
     // An item as it is made, before anything is sampled. Of the request the node's id is copied.
     fn new_item(
         &self,
-        alloc: Global,
         subscription: SubscriptionId,
         timestamps: Timestamps,
         request: &MonitoredItemCreateRequestView<'_>,
@@ -194,9 +200,9 @@ impl Items {
         ensures { IfOk result (λ item. item ≡ new_item self.now subscription timestamps request.now kind) }
     {
         let parameters = &request.requested_parameters;
-        let node_id = request.item_to_monitor.node_id.to_value(alloc)?;
+        let node_id = request.item_to_monitor.node_id.to_value(self.alloc)?;
         let size = revised_size(self.longest, parameters.queue_size);
-        let queue = ItemQueue::new(alloc, size, parameters.discard_oldest)?;
+        let queue = ItemQueue::new(self.alloc, size, parameters.discard_oldest)?;
         Ok(Item {
             subscription: subscription.0,
             node_id,
@@ -207,7 +213,7 @@ impl Items {
             trigger: kind.trigger,
             queue,
             released: false,
-            links: Links::new(alloc),
+            links: Links::new(self.alloc),
         })
     }
 
@@ -215,7 +221,6 @@ impl Items {
     #[tactic(auto, using(crate::proofs::MadeItems::enabled_may_hold, crate::proofs::MadeItems::none_is_empty), unfolding(crate::specs::Items::create_one))]
     fn create_one(
         &mut self,
-        alloc: Global,
         space: &Space,
         clock: Moment,
         subscription: SubscriptionId,
@@ -232,11 +237,11 @@ impl Items {
             Err(status) => return Ok(create_refused(status)),
         };
         let size = revised_size(self.longest, request.requested_parameters.queue_size);
-        let mut item = self.new_item(alloc, subscription, timestamps, request, kind)?;
+        let mut item = self.new_item(subscription, timestamps, request, kind)?;
         if item.mode.is_enabled() {
-            item.queue_reading(alloc, space, clock)?;
+            item.queue_reading(self.alloc, space, clock)?;
         }
-        self.table.add(alloc, item)?;
+        self.table.add(self.alloc, item)?;
         Ok(MonitoredItemCreateResult {
             status_code: Status::GOOD,
             monitored_item_id: self.table.made(),
@@ -249,7 +254,6 @@ impl Items {
     // Makes the items of a request. At an `Err` some were made.
     fn create_all<'a>(
         &mut self,
-        alloc: Global,
         space: &Space,
         clock: Moment,
         subscription: SubscriptionId,
@@ -261,9 +265,9 @@ impl Items {
         ensures err { OnErr result (CanBeUndone self.old self.new) }
         ensures memory { or_none requests.entry ≡ [] → IsOk result }
     {
-        let mut results = Vec::with_capacity(alloc, requests.len())?;
+        let mut results = Vec::with_capacity(self.alloc, requests.len())?;
         for request in requests {
-            let made = self.create_one(alloc, space, clock, subscription, timestamps, &request)?;
+            let made = self.create_one(space, clock, subscription, timestamps, &request)?;
             results.push_reserved(made);
         }
         Ok(results)
@@ -299,7 +303,6 @@ impl Items {
     /// refused the node's id is copied, and nothing else of the request.
     pub fn create<'a>(
         &mut self,
-        alloc: Global,
         space: &Space,
         clock: Moment,
         subscription: SubscriptionId,
@@ -312,7 +315,7 @@ impl Items {
         ensures memory { or_none requests.entry ≡ [] → IsOk result }
     {
         let made = self.table.made();
-        match self.create_all(alloc, space, clock, subscription, timestamps, requests) {
+        match self.create_all(space, clock, subscription, timestamps, requests) {
             Ok(results) => Ok(results),
             Err(error) => {
                 let last = self.table.made();
@@ -380,7 +383,6 @@ impl Items {
     /// `BAD_MONITORED_ITEM_ID_INVALID`; the filter, as in [`Items::create`].
     pub fn modify<'a>(
         &mut self,
-        alloc: Global,
         subscription: SubscriptionId,
         timestamps: Timestamps,
         requests: ArrayView<'a, MonitoredItemModifyRequestView<'a>>,
@@ -390,7 +392,7 @@ impl Items {
         ensures err { OnErr result (self.new ≡ self.old) }
         ensures memory { or_none requests.entry ≡ [] → IsOk result }
     {
-        let mut results = Vec::with_capacity(alloc, requests.len())?;
+        let mut results = Vec::with_capacity(self.alloc, requests.len())?;
         for request in requests {
             results.push_reserved(self.modify_one(subscription, timestamps, &request));
         }
@@ -400,7 +402,6 @@ impl Items {
     // An entry of SetMonitoringMode, with what the item queues if this enables it, and what that releases.
     fn prepared(
         &self,
-        alloc: Global,
         space: &Space,
         clock: Moment,
         subscription: SubscriptionId,
@@ -417,7 +418,7 @@ impl Items {
             Some(item) => {
                 if mode.is_enabled() && !item.mode.is_enabled() {
                     item.add_releases(releases)?;
-                    Some(item.first_sample(alloc, space, clock)?)
+                    Some(item.first_sample(self.alloc, space, clock)?)
                 } else {
                     None
                 }
@@ -429,7 +430,6 @@ impl Items {
     // The entries of SetMonitoringMode, each with what its item wants, and what they release.
     fn prepare_all(
         &self,
-        alloc: Global,
         space: &Space,
         clock: Moment,
         subscription: SubscriptionId,
@@ -442,17 +442,9 @@ impl Items {
         ensures ready { IfOk result (λ entries. AreReady space.now.nodes clock subscription mode self.now entries.items) }
         ensures memory { or_none numbers.entry ≡ [] → IsOk result }
     {
-        let mut entries = Vec::with_capacity(alloc, numbers.len())?;
+        let mut entries = Vec::with_capacity(self.alloc, numbers.len())?;
         for number in numbers {
-            let prepared = self.prepared(
-                alloc,
-                space,
-                clock,
-                subscription,
-                mode,
-                number,
-                releases,
-            )?;
+            let prepared = self.prepared(space, clock, subscription, mode, number, releases)?;
             entries.push(prepared)?;
         }
         Ok(entries)
@@ -475,7 +467,6 @@ impl Items {
     // At an `Err` the items are what they were.
     fn mode_all(
         &mut self,
-        alloc: Global,
         space: &Space,
         clock: Moment,
         subscription: SubscriptionId,
@@ -490,8 +481,8 @@ impl Items {
         ensures memory { or_none numbers.entry ≡ [] → IsOk result }
     {
         let count = numbers.len();
-        let entries = self.prepare_all(alloc, space, clock, subscription, mode, numbers, releases)?;
-        let mut results = Vec::with_capacity(alloc, count)?;
+        let entries = self.prepare_all(space, clock, subscription, mode, numbers, releases)?;
+        let mut results = Vec::with_capacity(self.alloc, count)?;
         for prepared in entries {
             results.push_reserved(self.mode_one(subscription, mode, prepared));
         }
@@ -507,7 +498,6 @@ impl Items {
     #[tactic(auto, using(crate::proofs::Once::once))]
     pub fn set_mode(
         &mut self,
-        alloc: Global,
         space: &Space,
         clock: Moment,
         subscription: SubscriptionId,
@@ -519,16 +509,8 @@ impl Items {
         ensures err { OnErr result (self.new ≡ self.old) }
         ensures memory { or_none numbers.entry ≡ [] → IsOk result }
     {
-        let mut releases = Releases::new(alloc);
-        let results = self.mode_all(
-            alloc,
-            space,
-            clock,
-            subscription,
-            mode,
-            numbers,
-            &mut releases,
-        )?;
+        let mut releases = Releases::new(self.alloc);
+        let results = self.mode_all(space, clock, subscription, mode, numbers, &mut releases)?;
         self.table.release(&releases);
         Ok(results)
     }
@@ -559,14 +541,13 @@ impl Items {
     // Of these numbers, as links, those of items of this subscription.
     fn own_of(
         &self,
-        alloc: Global,
         subscription: SubscriptionId,
         numbers: &BTreeSet<u32>,
     ) -> Result<Links, AllocError>
         ensures own { IfOk result (λ own. own ≡ in_order (filter (is_own_spec self.now subscription) numbers.now.keys)) }
         ensures none { numbers.now.keys ≡ [] → IsOk result }
     {
-        let mut own = Links::new(alloc);
+        let mut own = Links::new(self.alloc);
         for number in numbers {
             self.keep_own(subscription, &mut own, *number)?;
         }
@@ -574,18 +555,13 @@ impl Items {
     }
 
     // Of the items that are linked to one of this subscription, those that are there yet.
-    fn linked_yet(
-        &self,
-        alloc: Global,
-        subscription: SubscriptionId,
-        links: &Links,
-    ) -> Result<Links, AllocError>
+    fn linked_yet(&self, subscription: SubscriptionId, links: &Links) -> Result<Links, AllocError>
         ensures yet { IfOk result (λ yet. yet ≡ in_order (filter (is_own_spec self.now subscription) links.now)) }
         ensures none { links.now ≡ [] → IsOk result }
     {
         match links.numbers() {
-            Some(numbers) => self.own_of(alloc, subscription, numbers),
-            None => Ok(Links::new(alloc)),
+            Some(numbers) => self.own_of(subscription, numbers),
+            None => Ok(Links::new(self.alloc)),
         }
     }
 
@@ -617,7 +593,6 @@ impl Items {
     // Links items to the triggering one, one after the other.
     fn link_all(
         &self,
-        alloc: Global,
         subscription: SubscriptionId,
         triggering: u32,
         links: &mut Links,
@@ -627,7 +602,7 @@ impl Items {
         ensures links { OnOk result (links.new ≡ (fold (linked self.now subscription triggering) (record { statuses = []; numbers = links.old }) (or_none add.entry)).numbers) }
         ensures none { or_none add.entry ≡ [] → IsOk result }
     {
-        let mut statuses = Vec::with_capacity(alloc, add.len())?;
+        let mut statuses = Vec::with_capacity(self.alloc, add.len())?;
         for number in add {
             let status = self.link_one(subscription, triggering, links, number)?;
             statuses.push(status)?;
@@ -646,7 +621,6 @@ impl Items {
     #[tactic(auto, unfolding(crate::specs::Links::link))]
     pub fn link(
         &mut self,
-        alloc: Global,
         subscription: SubscriptionId,
         triggering: u32,
         add: ArrayView<'_, u32>,
@@ -663,13 +637,13 @@ impl Items {
         };
         if add.len() == 0 && remove.len() == 0 {
             return Ok(Ok(Linked {
-                added: Vec::new(alloc),
-                removed: Vec::new(alloc),
+                added: Vec::new(self.alloc),
+                removed: Vec::new(self.alloc),
             }));
         }
-        let mut links = self.linked_yet(alloc, subscription, &item.links)?;
-        let removed = unlink_all(alloc, &mut links, remove)?;
-        let added = self.link_all(alloc, subscription, triggering, &mut links, add)?;
+        let mut links = self.linked_yet(subscription, &item.links)?;
+        let removed = unlink_all(self.alloc, &mut links, remove)?;
+        let added = self.link_all(subscription, triggering, &mut links, add)?;
         self.table.set_links(triggering, links);
         Ok(Ok(Linked { added, removed }))
     }
@@ -693,7 +667,6 @@ impl Items {
     /// `BAD_MONITORED_ITEM_ID_INVALID` where the subscription has no such item.
     pub fn delete(
         &mut self,
-        alloc: Global,
         subscription: SubscriptionId,
         numbers: ArrayView<'_, u32>,
     ) -> Result<Vec<Status>, AllocError>
@@ -702,7 +675,7 @@ impl Items {
         ensures err { OnErr result (self.new ≡ self.old) }
         ensures memory { or_none numbers.entry ≡ [] → IsOk result }
     {
-        let mut statuses = Vec::with_capacity(alloc, numbers.len())?;
+        let mut statuses = Vec::with_capacity(self.alloc, numbers.len())?;
         for number in numbers {
             statuses.push_reserved(self.delete_one(subscription, number));
         }
@@ -723,29 +696,24 @@ impl Items {
     ///
     /// At want of memory, which comes only where an item is to queue a value, some have seen theirs, from the first on, that item
     /// hasn't, and nothing else was done.
-    pub fn sample(&mut self, alloc: Global, changed: &[Change]) -> Result<(), AllocError>
+    pub fn sample(&mut self, changed: &[Change]) -> Result<(), AllocError>
         ensures ok { OnOk result (self.new.items ≡ shown self.old.items changed.now) }
         ensures others { self.new ≡ record self.old { items = self.new.items } }
         ensures err { OnErr result (ShownSome self.old.items self.new.items changed.now) }
     {
-        self.table.sample(alloc, changed)
+        self.table.sample(self.alloc, changed)
     }
 
     /// Shows the items one value that was written, as [`Items::sample`] shows many.
     ///
     /// At want of memory, which comes only where an item is to queue the value, some of the node's items have seen it, from the
     /// first on, that item hasn't, and nothing else was done.
-    pub fn show(
-        &mut self,
-        alloc: Global,
-        node_id: &NodeId,
-        value: &DataValue,
-    ) -> Result<(), AllocError>
+    pub fn show(&mut self, node_id: &NodeId, value: &DataValue) -> Result<(), AllocError>
         ensures ok { OnOk result (self.new.items ≡ shown_one self.old.items (record { node_id = node_id.now; value = value.now })) }
         ensures others { self.new ≡ record self.old { items = self.new.items } }
         ensures err { OnErr result (VisitedSome self.old.items self.new.items (visits_of self.old.items (record { node_id = node_id.now; value = value.now }))) }
     {
-        self.table.show(alloc, node_id, value)
+        self.table.show(self.alloc, node_id, value)
     }
 
     /// Whether an item of a subscription that reports or is released has a value. Takes no memory, and looks at no item.
@@ -782,7 +750,6 @@ impl Items {
     /// At an `Err`, which is want of memory and comes only where there is a value to send, nothing changed.
     pub fn take_notes(
         &mut self,
-        alloc: Global,
         subscription: SubscriptionId,
         count: usize,
     ) -> Result<Vec<MonitoredItemNotification>, AllocError>
@@ -792,6 +759,6 @@ impl Items {
         ensures err { OnErr result (self.new ≡ self.old) }
         ensures waits { OnErr result (is_available self.old subscription ≡ true) }
     {
-        self.table.take_notes(alloc, subscription, count)
+        self.table.take_notes(self.alloc, subscription, count)
     }
 }

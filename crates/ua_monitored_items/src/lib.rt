@@ -12,8 +12,8 @@
 //! ```
 //!
 //! ```text
-//! let results = items.create(alloc, &space, clock, subscription, timestamps, requests)?;
-//! items.show(alloc, &node_id, &value)?;                         // each value that is written
+//! let results = items.create(&space, clock, subscription, timestamps, requests)?;
+//! items.show(&node_id, &value)?;                         // each value that is written
 //! if items.available(subscription) {
 //!     let mut message = DataChangeMessage::new(alloc, number, clock)?;
 //!     items.send(subscription, 100, &mut message)?;             // at most so many values
@@ -31,6 +31,7 @@
 //! docs/SUBSCRIPTIONS.md has the tables.
 #![tactic(auto)]
 
+mod counted_items;
 mod index;
 mod item;
 mod item_table;
@@ -39,7 +40,6 @@ mod kinds;
 pub mod laws;
 mod links;
 mod notes;
-mod numbered;
 mod preparing;
 mod releases;
 mod sampling;

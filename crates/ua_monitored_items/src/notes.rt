@@ -5,7 +5,7 @@ ghost use Rattle.ua_monitored_items.specs.ItemTables.{item_at};
 ghost use Rattle.ua_monitored_items.specs.Items.{taken_of};
 ghost use Rattle.ua_monitored_items.specs.Taking.{told_at, told_by};
 
-use crate::numbered::Numbered;
+use crate::counted_items::CountedItems;
 use std::alloc::{AllocError, Global};
 use std::collections::BTreeSet;
 use ua_subscription_messages::MonitoredItemNotification;
@@ -15,7 +15,7 @@ use ua_subscription_messages::MonitoredItemNotification;
 #[tactic(auto, using(crate::proofs::FirstNotes::told_first, crate::proofs::FirstNotes::told_rest))]
 fn copy_at(
     alloc: Global,
-    items: &Numbered,
+    items: &CountedItems,
     number: u32,
     left: usize,
     notes: &mut Vec<MonitoredItemNotification>,
@@ -34,7 +34,7 @@ fn copy_at(
 /// What the items with these numbers have to tell, the first so many values.
 pub(crate) fn copy_all(
     alloc: Global,
-    items: &Numbered,
+    items: &CountedItems,
     numbers: &BTreeSet<u32>,
     count: usize,
 ) -> Result<Vec<MonitoredItemNotification>, AllocError>
@@ -52,7 +52,7 @@ pub(crate) fn copy_all(
 }
 
 /// The first values of the items with these numbers are sent, at most so many. Takes no memory.
-pub(crate) fn send_all(items: &mut Numbered, numbers: &BTreeSet<u32>, count: usize)
+pub(crate) fn send_all(items: &mut CountedItems, numbers: &BTreeSet<u32>, count: usize)
     ensures { items.new ≡ (taken_of items.old count numbers.now.keys).items }
 {
     let mut left = count;

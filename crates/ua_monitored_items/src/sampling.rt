@@ -5,8 +5,8 @@ ghost use Rattle.ua_monitored_items.specs.Items.{sampled_items, VisitedSome};
 ghost use Rattle.ua_monitored_items.specs.Releases.{all_released, with_releases, sample_releases, seen_by_all};
 ghost use Rattle.ua_monitored_items.specs.Sampling.{visits_by, index_visits, index_shown, IndexShownSome};
 
+use crate::counted_items::CountedItems;
 use crate::index::Index;
-use crate::numbered::Numbered;
 use crate::releases::Releases;
 use std::alloc::{AllocError, Global};
 use std::collections::BTreeSet;
@@ -16,7 +16,7 @@ use ua_types::{DataValue, NodeId};
 // The items with these numbers see a value, one after the other. Answers what that releases.
 fn visit_all(
     alloc: Global,
-    items: &mut Numbered,
+    items: &mut CountedItems,
     numbers: &BTreeSet<u32>,
     value: &DataValue,
 ) -> Result<Releases, AllocError>
@@ -32,7 +32,7 @@ fn visit_all(
 }
 
 /// Items are released, one after the other. Takes no memory.
-pub(crate) fn release_all(items: &mut Numbered, releases: &Releases)
+pub(crate) fn release_all(items: &mut CountedItems, releases: &Releases)
     ensures { items.new ≡ all_released items.old releases.now }
 {
     for release in releases.all() {
@@ -45,7 +45,7 @@ pub(crate) fn release_all(items: &mut Numbered, releases: &Releases)
 #[tactic(auto, using(crate::proofs::Once::once))]
 fn show_value(
     alloc: Global,
-    items: &mut Numbered,
+    items: &mut CountedItems,
     numbers: &BTreeSet<u32>,
     value: &DataValue,
 ) -> Result<(), AllocError>
@@ -61,7 +61,7 @@ fn show_value(
 /// At an `Err` some visits were made, from the first on, and the next item, which was to queue the value, hasn't seen it.
 pub(crate) fn show_node(
     alloc: Global,
-    items: &mut Numbered,
+    items: &mut CountedItems,
     on_node: &Index<NodeId>,
     node_id: &NodeId,
     value: &DataValue,
@@ -80,7 +80,7 @@ pub(crate) fn show_node(
 /// queue its value, hasn't seen it.
 pub(crate) fn sample_all(
     alloc: Global,
-    items: &mut Numbered,
+    items: &mut CountedItems,
     on_node: &Index<NodeId>,
     changed: &[Change],
 ) -> Result<(), AllocError>

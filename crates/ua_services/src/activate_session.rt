@@ -55,13 +55,13 @@ impl<'a> Service<'a> for ActivateSession {
     ghost meaning = { activate_session_meaning };
 
     fn serve(
-        alloc: Global,
         setting: &Setting,
         caller: &Caller,
         token: &NodeIdView<'_>,
         request: ActivateSessionRequestView<'a>,
         services: &mut Services,
     ) -> Result<Served, Refusal> {
+        let alloc = services.allocator();
         let is_anonymous = is_anonymous(&request.user_identity_token);
         let nonce = services
             .sessions

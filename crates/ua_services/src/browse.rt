@@ -83,7 +83,6 @@ impl<'a> SessionService<'a> for Browse {
     ghost meaning = { browse_meaning };
 
     fn serve(
-        alloc: Global,
         setting: &Setting,
         caller: &Caller,
         session: u32,
@@ -98,14 +97,6 @@ impl<'a> SessionService<'a> for Browse {
         let pages = FirstPages {
             size: size_in(&setting.config, requested),
         };
-        serve_pages(
-            alloc,
-            setting,
-            caller,
-            session,
-            services,
-            &pages,
-            descriptions,
-        )
+        serve_pages(setting, caller, session, services, &pages, descriptions)
     }
 }

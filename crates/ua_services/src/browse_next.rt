@@ -108,7 +108,6 @@ impl<'a> SessionService<'a> for BrowseNext {
     ghost meaning = { browse_next_meaning };
 
     fn serve(
-        alloc: Global,
         setting: &Setting,
         caller: &Caller,
         session: u32,
@@ -119,6 +118,6 @@ impl<'a> SessionService<'a> for BrowseNext {
         let pages = NextPages {
             is_release: request.release_continuation_points,
         };
-        serve_pages(alloc, setting, caller, session, services, &pages, named)
+        serve_pages(setting, caller, session, services, &pages, named)
     }
 }

@@ -39,7 +39,6 @@ impl<'a> Service<'a> for CloseSession {
     ghost meaning = { close_session_meaning };
 
     fn serve(
-        alloc: Global,
         setting: &Setting,
         caller: &Caller,
         token: &NodeIdView<'_>,
@@ -48,7 +47,7 @@ impl<'a> Service<'a> for CloseSession {
     ) -> Result<Served, Refusal> {
         let number = services.sessions.close(token, caller.origin.conn)?;
         let deleting = request.delete_subscriptions;
-        let ended = end_session(alloc, setting, number, deleting, services)?;
-        Ok(joined(ended, closed(alloc, setting, caller)?)?)
+        let ended = end_session(setting, number, deleting, services)?;
+        Ok(joined(ended, closed(services.allocator(), setting, caller)?)?)
     }
 }

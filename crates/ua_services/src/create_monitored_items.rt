@@ -7,7 +7,6 @@ use crate::item_serving::ItemService;
 use crate::operations::operations;
 use crate::services::Services;
 use server_messages::Setting;
-use std::alloc::Global;
 use ua_messages::{MessageBody, ResponseHeader, results_body, type_ids};
 use ua_read_write::Timestamps;
 use ua_subscription_messages::{CreateMonitoredItemsRequestView, SubscriptionId};
@@ -33,7 +32,6 @@ impl<'a> ItemService<'a> for CreateMonitoredItems {
     }
 
     fn change_items(
-        alloc: Global,
         setting: &Setting,
         caller: &Caller,
         request: CreateMonitoredItemsRequestView<'a>,
@@ -45,16 +43,11 @@ impl<'a> ItemService<'a> for CreateMonitoredItems {
         let subscription = SubscriptionId(request.subscription_id);
         let requests = operations(&setting.config, request.items_to_create)?;
         let space = &services.space;
-        let results = services.items.create(
-            alloc,
-            space,
-            setting.clock,
-            subscription,
-            timestamps,
-            requests,
-        )?;
+        let results = services
+            .items
+            .create(space, setting.clock, subscription, timestamps, requests)?;
         let header = ResponseHeader::good(caller.origin.handle, setting.clock);
         let type_id = type_ids::CREATE_MONITORED_ITEMS_RESPONSE;
-        Ok(results_body(alloc, type_id, &header, results.as_slice())?)
+        Ok(results_body(services.allocator(), type_id, &header, results.as_slice())?)
     }
 }

@@ -62,13 +62,13 @@ impl<'a> Service<'a> for CreateSession {
     ghost meaning = { create_session_meaning };
 
     fn serve(
-        alloc: Global,
         setting: &Setting,
         caller: &Caller,
         _token: &NodeIdView<'_>,
         _request: CreateSessionRequestView<'a>,
         services: &mut Services,
     ) -> Result<Served, Refusal> {
+        let alloc = services.allocator();
         let conn = caller.origin.conn;
         let session = services.sessions.create(alloc, conn, &caller.key)?;
         let body = response_body(alloc, setting, caller.origin.handle, session)?;

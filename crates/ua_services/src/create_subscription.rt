@@ -51,13 +51,13 @@ impl<'a> SessionService<'a> for CreateSubscription {
     ghost meaning = { create_subscription_meaning };
 
     fn serve(
-        alloc: Global,
         setting: &Setting,
         caller: &Caller,
         session: u32,
         request: CreateSubscriptionRequest,
         services: &mut Services,
     ) -> Result<Served, Refusal> {
+        let alloc = services.allocator();
         let settings = Settings {
             keep_alive_count: request.requested_max_keep_alive_count,
             lifetime_count: request.requested_lifetime_count,
@@ -68,7 +68,7 @@ impl<'a> SessionService<'a> for CreateSubscription {
         let items = &mut services.items;
         let answered = services
             .subs
-            .create(alloc, items, setting.clock, session, settings, enabled)?;
+            .create(items, setting.clock, session, settings, enabled)?;
         let (answer, others) = apart(alloc, answered);
         let body = answer_body(alloc, setting, caller, answer)?;
         Ok(reply_first(alloc, caller, body, others)?)

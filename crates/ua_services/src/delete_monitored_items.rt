@@ -8,7 +8,6 @@ use crate::operations::operations;
 use crate::services::Services;
 use crate::status_results::statuses_body;
 use server_messages::Setting;
-use std::alloc::Global;
 use ua_messages::{MessageBody, type_ids};
 use ua_subscription_messages::{DeleteMonitoredItemsRequestView, SubscriptionId};
 use ua_types::Refusal;
@@ -32,7 +31,6 @@ impl<'a> ItemService<'a> for DeleteMonitoredItems {
     }
 
     fn change_items(
-        alloc: Global,
         setting: &Setting,
         caller: &Caller,
         request: DeleteMonitoredItemsRequestView<'a>,
@@ -40,8 +38,14 @@ impl<'a> ItemService<'a> for DeleteMonitoredItems {
     ) -> Result<MessageBody, Refusal> {
         let subscription = SubscriptionId(request.subscription_id);
         let numbers = operations(&setting.config, request.monitored_item_ids)?;
-        let statuses = services.items.delete(alloc, subscription, numbers)?;
+        let statuses = services.items.delete(subscription, numbers)?;
         let type_id = type_ids::DELETE_MONITORED_ITEMS_RESPONSE;
-        Ok(statuses_body(alloc, type_id, setting, caller, statuses.as_slice())?)
+        Ok(statuses_body(
+            services.allocator(),
+            type_id,
+            setting,
+            caller,
+            statuses.as_slice(),
+        )?)
     }
 }

@@ -9,7 +9,6 @@ use crate::session_service::SessionService;
 use crate::status_results::statuses_body;
 use crate::sub_serving::{apart, reply_first};
 use server_messages::{Served, Setting};
-use std::alloc::Global;
 use ua_messages::type_ids;
 use ua_subscription_messages::DeleteSubscriptionsRequestView;
 use ua_types::Refusal;
@@ -27,18 +26,18 @@ impl<'a> SessionService<'a> for DeleteSubscriptions {
     ghost meaning = { delete_subscriptions_meaning };
 
     fn serve(
-        alloc: Global,
         setting: &Setting,
         caller: &Caller,
         session: u32,
         request: DeleteSubscriptionsRequestView<'a>,
         services: &mut Services,
     ) -> Result<Served, Refusal> {
+        let alloc = services.allocator();
         let numbers = operations(&setting.config, request.subscription_ids)?;
         let items = &mut services.items;
         let answered = services
             .subs
-            .delete(alloc, items, setting.clock, session, numbers)?;
+            .delete(items, setting.clock, session, numbers)?;
         let (statuses, others) = apart(alloc, answered);
         let type_id = type_ids::DELETE_SUBSCRIPTIONS_RESPONSE;
         let body = statuses_body(alloc, type_id, setting, caller, statuses.as_slice())?;

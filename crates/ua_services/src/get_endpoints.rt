@@ -7,7 +7,6 @@ use crate::endpoint_list::endpoints_body;
 use crate::service::{Service, reply};
 use crate::services::Services;
 use server_messages::{Served, Setting};
-use std::alloc::Global;
 use ua_messages::GetEndpointsRequestView;
 use ua_types::Refusal;
 use ua_views::NodeIdView;
@@ -21,13 +20,13 @@ impl<'a> Service<'a> for GetEndpoints {
     ghost meaning = { get_endpoints_meaning };
 
     fn serve(
-        alloc: Global,
         setting: &Setting,
         caller: &Caller,
         _token: &NodeIdView<'_>,
         request: GetEndpointsRequestView<'a>,
-        _services: &mut Services,
+        services: &mut Services,
     ) -> Result<Served, Refusal> {
+        let alloc = services.allocator();
         let body = endpoints_body(
             alloc,
             &setting.config,

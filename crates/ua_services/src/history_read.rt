@@ -163,7 +163,6 @@ impl<'a> SessionService<'a> for HistoryRead {
     ghost meaning = { history_read_meaning };
 
     fn serve(
-        alloc: Global,
         setting: &Setting,
         caller: &Caller,
         session: u32,
@@ -180,6 +179,6 @@ impl<'a> SessionService<'a> for HistoryRead {
             is_release: request.release_continuation_points,
             range,
         };
-        serve_pages(alloc, setting, caller, session, services, &wanted, nodes)
+        serve_pages(setting, caller, session, services, &wanted, nodes)
     }
 }

@@ -12,7 +12,7 @@ use crate::services::Services;
 use crate::session_service::SessionService;
 use crate::sub_serving::{reply_first, served_alone};
 use server_messages::{Served, Setting};
-use std::alloc::{AllocError, Global};
+use std::alloc::AllocError;
 use ua_messages::{MessageBody, fault};
 use ua_state_table::Vars;
 use ua_subscription_messages::SubscriptionId;
@@ -41,7 +41,6 @@ pub trait ItemService<'a> {
     /// Changes the items as a request asks for, and gives the body of the answer. At `Service`
     /// the items are as they were; `Exhausted` never comes.
     fn change_items(
-        alloc: Global,
         setting: &Setting,
         caller: &Caller,
         request: Self::Request,
@@ -54,7 +53,6 @@ pub trait ItemService<'a> {
     /// Changes the items as a request asks for, and gives the body of the answer: that of a fault, where the request is
     /// refused.
     final fn answer_body(
-        alloc: Global,
         setting: &Setting,
         caller: &Caller,
         request: Self::Request,
@@ -63,10 +61,10 @@ pub trait ItemService<'a> {
         ensures body { IfOk result (λ body. body ≡ (change setting.now caller.now request services.old).body) }
         ensures items { OnOk result (services.new ≡ with_items services.old (change setting.now caller.now request services.old).items) }
     {
-        match Self::change_items(alloc, setting, caller, request, services) {
+        match Self::change_items(setting, caller, request, services) {
             Ok(body) => Ok(body),
             Err(Refusal::Service(status)) => fault(
-                alloc,
+                services.allocator(),
                 caller.origin.handle,
                 status,
                 setting.clock,
@@ -91,7 +89,6 @@ fn own_vars(services: &Services, session: u32, subscription: SubscriptionId) -> 
 // Answers a request that named a subscription of its session, whose items it may have changed: the subscription fires its
 // row. `before`: its variables before the request.
 fn answer_items(
-    alloc: Global,
     setting: &Setting,
     caller: &Caller,
     number: SubscriptionId,
@@ -101,10 +98,9 @@ fn answer_items(
 ) -> Result<Served, Refusal>
     ensures { Judges setting.now caller.now result services.new (fired_after setting.now caller.now number services.old before body) }
 {
+    let alloc = services.allocator();
     let items = &mut services.items;
-    let answered = services
-        .subs
-        .items(alloc, items, setting.clock, number, before)?;
+    let answered = services.subs.items(items, setting.clock, number, before)?;
     Ok(reply_first(alloc, caller, body, served_alone(alloc, answered))?)
 }
 
@@ -114,7 +110,6 @@ impl<'a, S: ItemService<'a>> SessionService<'a> for S {
     ghost meaning = { λ setting caller session request state. items_called setting caller session (S.subscription request) state (S.change setting caller request state) };
 
     fn serve(
-        alloc: Global,
         setting: &Setting,
         caller: &Caller,
         session: u32,
@@ -125,7 +120,7 @@ impl<'a, S: ItemService<'a>> SessionService<'a> for S {
         let Some(before) = own_vars(services, session, number) else {
             return Err(Refusal::Service(Status::BAD_SUBSCRIPTION_ID_INVALID));
         };
-        let body = S::answer_body(alloc, setting, caller, request, services)?;
-        answer_items(alloc, setting, caller, number, before, body, services)
+        let body = S::answer_body(setting, caller, request, services)?;
+        answer_items(setting, caller, number, before, body, services)
     }
 }

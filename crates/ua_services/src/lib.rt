@@ -10,8 +10,8 @@
 //!
 //! ```text
 //! let mut services = Services::new(alloc, &config, space)?;
-//! let served = services.serve(alloc, &setting, &request)?;   // each request, as it is complete
-//! let served = services.tick(alloc, &setting)?;              // whenever time has passed
+//! let served = services.serve(&setting, &request)?;          // each request, as it is complete
+//! let served = services.tick(&setting)?;                     // whenever time has passed
 //! deliver(served.replies);                                   // each by the connection that its request came by
 //! keep(served.stored);                                       // before that, where there is a store
 //! services.forget(conn);                                     // once a connection is gone

@@ -7,7 +7,6 @@ use crate::item_serving::ItemService;
 use crate::operations::operations;
 use crate::services::Services;
 use server_messages::Setting;
-use std::alloc::Global;
 use ua_messages::{MessageBody, ResponseHeader, results_body, type_ids};
 use ua_read_write::Timestamps;
 use ua_subscription_messages::{ModifyMonitoredItemsRequestView, SubscriptionId};
@@ -32,7 +31,6 @@ impl<'a> ItemService<'a> for ModifyMonitoredItems {
     }
 
     fn change_items(
-        alloc: Global,
         setting: &Setting,
         caller: &Caller,
         request: ModifyMonitoredItemsRequestView<'a>,
@@ -44,9 +42,9 @@ impl<'a> ItemService<'a> for ModifyMonitoredItems {
         let requests = operations(&setting.config, request.items_to_modify)?;
         let subscription = SubscriptionId(request.subscription_id);
         let items = &mut services.items;
-        let results = items.modify(alloc, subscription, timestamps, requests)?;
+        let results = items.modify(subscription, timestamps, requests)?;
         let header = ResponseHeader::good(caller.origin.handle, setting.clock);
         let type_id = type_ids::MODIFY_MONITORED_ITEMS_RESPONSE;
-        Ok(results_body(alloc, type_id, &header, results.as_slice())?)
+        Ok(results_body(services.allocator(), type_id, &header, results.as_slice())?)
     }
 }

@@ -51,13 +51,13 @@ impl<'a> SessionService<'a> for ModifySubscription {
     ghost meaning = { modify_subscription_meaning };
 
     fn serve(
-        alloc: Global,
         setting: &Setting,
         caller: &Caller,
         session: u32,
         request: ModifySubscriptionRequest,
         services: &mut Services,
     ) -> Result<Served, Refusal> {
+        let alloc = services.allocator();
         let settings = Settings {
             keep_alive_count: request.requested_max_keep_alive_count,
             lifetime_count: request.requested_lifetime_count,
@@ -66,14 +66,9 @@ impl<'a> SessionService<'a> for ModifySubscription {
         };
         let subscription = SubscriptionId(request.subscription_id);
         let items = &mut services.items;
-        let answered = services.subs.modify(
-            alloc,
-            items,
-            setting.clock,
-            session,
-            subscription,
-            settings,
-        )?;
+        let answered = services
+            .subs
+            .modify(items, setting.clock, session, subscription, settings)?;
         let (answer, others) = apart(alloc, answered);
         let body = answer_body(alloc, setting, caller, answer)?;
         Ok(reply_first(alloc, caller, body, others)?)

@@ -109,7 +109,6 @@ fn answer(alloc: Global, caller: &Caller, mut body: MessageBody) -> Result<Serve
 
 /// Answers with the first page of each thing that is asked for, and leaves the session the points for the next ones.
 pub(crate) fn serve_pages<'a, P: Pages<'a>>(
-    alloc: Global,
     setting: &Setting,
     caller: &Caller,
     session: u32,
@@ -120,6 +119,7 @@ pub(crate) fn serve_pages<'a, P: Pages<'a>>(
     ensures { Judges setting.now caller.now result services.new (paged P.Answer.encoding setting.now caller.now session P.RESPONSE services.old
         (all_done (P.meaning wanted.now services.old.space services.old.history) (points_of services.old.sessions session) (or_none list.entry))) }
 {
+    let alloc = services.allocator();
     services.sessions.open_points(alloc, session)?;
     let (space, history) = (&services.space, &services.history);
     let Some(points) = services.sessions.points_mut(session) else {

@@ -12,7 +12,6 @@ use crate::services::Services;
 use crate::session_service::SessionService;
 use crate::sub_serving::served_alone;
 use server_messages::{Served, Setting};
-use std::alloc::Global;
 use ua_subscription_messages::{PublishRequestView, SubscriptionAcknowledgement};
 use ua_subscriptions::PublishCall;
 use ua_types::{Listed, Refusal, Status};
@@ -20,7 +19,6 @@ use ua_views::ArrayView;
 
 // Takes a request whose acknowledgements aren't too many.
 fn taken(
-    alloc: Global,
     setting: &Setting,
     caller: &Caller,
     session: u32,
@@ -29,6 +27,7 @@ fn taken(
 ) -> Result<Served, Refusal>
     ensures { Judges setting.now caller.now result services.new (called_alone services.old (published session (publish_call caller.now) (or_none acknowledgements.entry) (stage_at setting.now services.old))) }
 {
+    let alloc = services.allocator();
     let publish = PublishCall {
         origin: caller.origin,
         results: Listed::new(alloc),
@@ -37,7 +36,7 @@ fn taken(
     let clock = setting.clock;
     let answered = services
         .subs
-        .publish(alloc, items, clock, session, publish, acknowledgements)?;
+        .publish(items, clock, session, publish, acknowledgements)?;
     Ok(served_alone(alloc, answered))
 }
 
@@ -55,7 +54,6 @@ impl<'a> SessionService<'a> for Publish {
     ghost meaning = { publish_meaning };
 
     fn serve(
-        alloc: Global,
         setting: &Setting,
         caller: &Caller,
         session: u32,
@@ -66,6 +64,6 @@ impl<'a> SessionService<'a> for Publish {
         if acknowledgements.len() > setting.config.operations as usize {
             return Err(Refusal::Service(Status::BAD_TOO_MANY_OPERATIONS));
         }
-        taken(alloc, setting, caller, session, acknowledgements, services)
+        taken(setting, caller, session, acknowledgements, services)
     }
 }

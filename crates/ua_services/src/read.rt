@@ -8,7 +8,6 @@ use crate::service::reply;
 use crate::services::Services;
 use crate::session_service::SessionService;
 use server_messages::{Served, Setting};
-use std::alloc::Global;
 use ua_messages::ResponseHeader;
 use ua_read_write::{Timestamps, read_body};
 use ua_service_messages::ReadRequestView;
@@ -28,13 +27,13 @@ impl<'a> SessionService<'a> for Read {
     ghost meaning = { read_meaning };
 
     fn serve(
-        alloc: Global,
         setting: &Setting,
         caller: &Caller,
         _session: u32,
         request: ReadRequestView<'a>,
         services: &mut Services,
     ) -> Result<Served, Refusal> {
+        let alloc = services.allocator();
         let Some(timestamps) = Timestamps::chosen(request.timestamps_to_return) else {
             return Err(Refusal::Service(Status::BAD_TIMESTAMPS_TO_RETURN_INVALID));
         };

@@ -44,19 +44,19 @@ impl<'a> SessionService<'a> for Republish {
     ghost meaning = { republish_meaning };
 
     fn serve(
-        alloc: Global,
         setting: &Setting,
         caller: &Caller,
         session: u32,
         request: RepublishRequest,
         services: &mut Services,
     ) -> Result<Served, Refusal> {
+        let alloc = services.allocator();
         let subscription = SubscriptionId(request.subscription_id);
         let wanted = request.retransmit_sequence_number;
         let items = &mut services.items;
         let answered = services
             .subs
-            .republish(alloc, items, setting.clock, session, subscription, wanted)?;
+            .republish(items, setting.clock, session, subscription, wanted)?;
         let (answer, others) = apart(alloc, answered);
         let body = answer_body(alloc, setting, caller, answer)?;
         Ok(reply_first(alloc, caller, body, others)?)

@@ -76,7 +76,6 @@ pub trait Service<'a> {
     /// Does what a request asks for, or refuses it. `token` is the one in the request's header, which may name a session. Want of
     /// memory is answered to a request that isn't refused, `Exhausted` where a serial of 64 bits ran out.
     fn serve(
-        alloc: Global,
         setting: &Setting,
         caller: &Caller,
         token: &NodeIdView<'_>,
@@ -88,7 +87,6 @@ pub trait Service<'a> {
     /// Looks at a request's fields in the bytes behind its header, and serves it. One whose fields can't be read is refused with
     /// `BAD_DECODING_ERROR`, however little memory there is.
     final fn take(
-        alloc: Global,
         setting: &Setting,
         caller: &Caller,
         headed: &Headed<'a>,
@@ -99,7 +97,7 @@ pub trait Service<'a> {
     {
         let token = &headed.header.authentication_token;
         match fields_view::<Self::Request>(headed.fields) {
-            Ok(request) => Self::serve(alloc, setting, caller, token, request, services),
+            Ok(request) => Self::serve(setting, caller, token, request, services),
             Err(_) => Err(Refusal::Service(Status::BAD_DECODING_ERROR)),
         }
     }

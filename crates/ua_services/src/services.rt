@@ -77,19 +77,20 @@ impl Services {
         })
     }
 
+    /// From where the services take memory.
+    pub fn allocator(&self) -> Global {
+        self.items.allocator()
+    }
+
     /// Does what a request asks for. The replies may be for it and for others that waited.
     ///
     /// `Memory` comes only where an allocation failed, `Exhausted` only where the serials of nonces, of a session's
     /// continuation points, or of the messages of subscriptions are used up.
     #[tactic(auto, unfolding(crate::specs::Services::serving_of))]
-    pub fn serve(
-        &mut self,
-        alloc: Global,
-        setting: &Setting,
-        request: &Request,
-    ) -> Result<Served, Halt>
+    pub fn serve(&mut self, setting: &Setting, request: &Request) -> Result<Served, Halt>
         ensures { Serves result self.new (serving_of setting.now request.now self.old) }
     {
+        let alloc = self.allocator();
         let body = request.body.as_slice();
         let mut caller = Caller {
             origin: Origin {
@@ -103,7 +104,7 @@ impl Services {
             return Ok(refuse(alloc, &caller, Status::BAD_DECODING_ERROR, setting.clock)?);
         };
         caller.origin.handle = headed.header.request_handle;
-        match self.pick(alloc, setting, &caller, &headed) {
+        match self.pick(setting, &caller, &headed) {
             Ok(served) => Ok(served),
             Err(Refusal::Service(status)) => Ok(refuse(alloc, &caller, status, setting.clock)?),
             Err(Refusal::Memory) => Err(Halt::Memory),
@@ -114,7 +115,6 @@ impl Services {
     // Does what a request of this type asks for, or refuses it. Its header was looked at.
     fn pick(
         &mut self,
-        alloc: Global,
         setting: &Setting,
         caller: &Caller,
         headed: &Headed<'_>,
@@ -122,56 +122,48 @@ impl Services {
         ensures { Judges setting.now caller.now result self.new (picked setting.now caller.now headed.now.header.authentication_token headed.now.fields.now self.old headed.now.type_id) }
     {
         match headed.type_id {
-            type_ids::GET_ENDPOINTS_REQUEST => {
-                GetEndpoints::take(alloc, setting, caller, headed, self)
-            }
+            type_ids::GET_ENDPOINTS_REQUEST => { GetEndpoints::take(setting, caller, headed, self) }
             type_ids::CREATE_SESSION_REQUEST => {
-                CreateSession::take(alloc, setting, caller, headed, self)
+                CreateSession::take(setting, caller, headed, self)
             }
             type_ids::ACTIVATE_SESSION_REQUEST => {
-                ActivateSession::take(alloc, setting, caller, headed, self)
+                ActivateSession::take(setting, caller, headed, self)
             }
-            type_ids::CLOSE_SESSION_REQUEST => {
-                CloseSession::take(alloc, setting, caller, headed, self)
-            }
-            type_ids::READ_REQUEST => Read::take(alloc, setting, caller, headed, self),
-            type_ids::WRITE_REQUEST => Write::take(alloc, setting, caller, headed, self),
-            type_ids::BROWSE_REQUEST => Browse::take(alloc, setting, caller, headed, self),
-            type_ids::BROWSE_NEXT_REQUEST => {
-                BrowseNext::take(alloc, setting, caller, headed, self)
-            }
-            type_ids::HISTORY_READ_REQUEST => {
-                HistoryRead::take(alloc, setting, caller, headed, self)
-            }
+            type_ids::CLOSE_SESSION_REQUEST => { CloseSession::take(setting, caller, headed, self) }
+            type_ids::READ_REQUEST => Read::take(setting, caller, headed, self),
+            type_ids::WRITE_REQUEST => Write::take(setting, caller, headed, self),
+            type_ids::BROWSE_REQUEST => Browse::take(setting, caller, headed, self),
+            type_ids::BROWSE_NEXT_REQUEST => { BrowseNext::take(setting, caller, headed, self) }
+            type_ids::HISTORY_READ_REQUEST => { HistoryRead::take(setting, caller, headed, self) }
             type_ids::CREATE_MONITORED_ITEMS_REQUEST => {
-                CreateMonitoredItems::take(alloc, setting, caller, headed, self)
+                CreateMonitoredItems::take(setting, caller, headed, self)
             }
             type_ids::MODIFY_MONITORED_ITEMS_REQUEST => {
-                ModifyMonitoredItems::take(alloc, setting, caller, headed, self)
+                ModifyMonitoredItems::take(setting, caller, headed, self)
             }
             type_ids::SET_MONITORING_MODE_REQUEST => {
-                SetMonitoringMode::take(alloc, setting, caller, headed, self)
+                SetMonitoringMode::take(setting, caller, headed, self)
             }
             type_ids::SET_TRIGGERING_REQUEST => {
-                SetTriggering::take(alloc, setting, caller, headed, self)
+                SetTriggering::take(setting, caller, headed, self)
             }
             type_ids::DELETE_MONITORED_ITEMS_REQUEST => {
-                DeleteMonitoredItems::take(alloc, setting, caller, headed, self)
+                DeleteMonitoredItems::take(setting, caller, headed, self)
             }
             type_ids::CREATE_SUBSCRIPTION_REQUEST => {
-                CreateSubscription::take(alloc, setting, caller, headed, self)
+                CreateSubscription::take(setting, caller, headed, self)
             }
             type_ids::MODIFY_SUBSCRIPTION_REQUEST => {
-                ModifySubscription::take(alloc, setting, caller, headed, self)
+                ModifySubscription::take(setting, caller, headed, self)
             }
             type_ids::SET_PUBLISHING_MODE_REQUEST => {
-                SetPublishingMode::take(alloc, setting, caller, headed, self)
+                SetPublishingMode::take(setting, caller, headed, self)
             }
             type_ids::DELETE_SUBSCRIPTIONS_REQUEST => {
-                DeleteSubscriptions::take(alloc, setting, caller, headed, self)
+                DeleteSubscriptions::take(setting, caller, headed, self)
             }
-            type_ids::PUBLISH_REQUEST => Publish::take(alloc, setting, caller, headed, self),
-            type_ids::REPUBLISH_REQUEST => { Republish::take(alloc, setting, caller, headed, self) }
+            type_ids::PUBLISH_REQUEST => Publish::take(setting, caller, headed, self),
+            type_ids::REPUBLISH_REQUEST => { Republish::take(setting, caller, headed, self) }
             _ => Err(Refusal::Service(Status::BAD_SERVICE_UNSUPPORTED)),
         }
     }
@@ -179,27 +171,28 @@ impl Services {
     /// Does what is due as time passes: the sessions end whose deadline the clock has reached, by rising number, and leave
     /// their subscriptions to their lifetime; then the timers of the subscriptions that are due come, the best first. Takes
     /// no memory where nothing is due.
-    pub fn tick(&mut self, alloc: Global, setting: &Setting) -> Result<Served, Halt>
+    pub fn tick(&mut self, setting: &Setting) -> Result<Served, Halt>
         ensures ticks { Serves result self.new (ticking_of setting.now self.old) }
         ensures idle { is_idle setting.now self.old ≡ true → IsOk result }
     {
-        let ended = self.sessions.tick(alloc, setting.clock)?;
+        let ended = self.sessions.tick(self.allocator(), setting.clock)?;
         if ended.is_empty() {
-            return fire_timers(alloc, setting, self);
+            return fire_timers(setting, self);
         }
-        let served = end_sessions(alloc, setting, ended.as_slice(), self)?;
-        let more = fire_timers(alloc, setting, self)?;
+        let served = end_sessions(setting, ended.as_slice(), self)?;
+        let more = fire_timers(setting, self)?;
         Ok(joined(served, more)?)
     }
 
     /// Ends all that is served: the subscriptions end, by rising number, the Publish requests that wait are answered
     /// `BAD_SHUTDOWN`, and no session is left.
     #[tactic(auto, unfolding(crate::specs::Services::shutting_of))]
-    pub fn shut_down(&mut self, alloc: Global, setting: &Setting) -> Result<Served, Halt>
+    pub fn shut_down(&mut self, setting: &Setting) -> Result<Served, Halt>
         ensures { Serves result self.new (shutting_of setting.now self.old) }
     {
+        let alloc = self.allocator();
         let items = &mut self.items;
-        let answered = self.subs.shut_down(alloc, items, setting.clock)?;
+        let answered = self.subs.shut_down(items, setting.clock)?;
         self.sessions.end_all(alloc);
         Ok(served_alone(alloc, answered))
     }

@@ -11,7 +11,6 @@ use crate::caller::Caller;
 use crate::service::Service;
 use crate::services::Services;
 use server_messages::{Served, Setting};
-use std::alloc::Global;
 use ua_types::Refusal;
 use ua_views::{NodeIdView, View};
 
@@ -32,7 +31,6 @@ pub trait SessionService<'a> {
     /// its continuation points uses them in their place ([`ua_session::Sessions::points_mut`]). Want of memory is answered to a
     /// request that isn't refused, `Exhausted` where a serial of 64 bits ran out.
     fn serve(
-        alloc: Global,
         setting: &Setting,
         caller: &Caller,
         session: u32,
@@ -48,7 +46,6 @@ impl<'a, S: SessionService<'a>> Service<'a> for S {
     ghost meaning = { in_session S.meaning };
 
     fn serve(
-        alloc: Global,
         setting: &Setting,
         caller: &Caller,
         token: &NodeIdView<'_>,
@@ -56,6 +53,6 @@ impl<'a, S: SessionService<'a>> Service<'a> for S {
         services: &mut Services,
     ) -> Result<Served, Refusal> {
         let session = services.sessions.find(token, caller.origin.conn)?;
-        <S as SessionService<'a>>::serve(alloc, setting, caller, session, request, services)
+        <S as SessionService<'a>>::serve(setting, caller, session, request, services)
     }
 }

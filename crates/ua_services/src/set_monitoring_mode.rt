@@ -8,7 +8,6 @@ use crate::operations::operations;
 use crate::services::Services;
 use crate::status_results::statuses_body;
 use server_messages::Setting;
-use std::alloc::Global;
 use ua_messages::{MessageBody, type_ids};
 use ua_monitored_items::Mode;
 use ua_subscription_messages::{SetMonitoringModeRequestView, SubscriptionId};
@@ -34,7 +33,6 @@ impl<'a> ItemService<'a> for SetMonitoringMode {
     }
 
     fn change_items(
-        alloc: Global,
         setting: &Setting,
         caller: &Caller,
         request: SetMonitoringModeRequestView<'a>,
@@ -48,8 +46,14 @@ impl<'a> ItemService<'a> for SetMonitoringMode {
         let space = &services.space;
         let statuses = services
             .items
-            .set_mode(alloc, space, setting.clock, subscription, mode, numbers)?;
+            .set_mode(space, setting.clock, subscription, mode, numbers)?;
         let type_id = type_ids::SET_MONITORING_MODE_RESPONSE;
-        Ok(statuses_body(alloc, type_id, setting, caller, statuses.as_slice())?)
+        Ok(statuses_body(
+            services.allocator(),
+            type_id,
+            setting,
+            caller,
+            statuses.as_slice(),
+        )?)
     }
 }

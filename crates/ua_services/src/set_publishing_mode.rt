@@ -9,7 +9,6 @@ use crate::session_service::SessionService;
 use crate::status_results::statuses_body;
 use crate::sub_serving::{apart, reply_first};
 use server_messages::{Served, Setting};
-use std::alloc::Global;
 use ua_messages::type_ids;
 use ua_subscription_messages::SetPublishingModeRequestView;
 use ua_types::Refusal;
@@ -26,19 +25,19 @@ impl<'a> SessionService<'a> for SetPublishingMode {
     ghost meaning = { set_publishing_mode_meaning };
 
     fn serve(
-        alloc: Global,
         setting: &Setting,
         caller: &Caller,
         session: u32,
         request: SetPublishingModeRequestView<'a>,
         services: &mut Services,
     ) -> Result<Served, Refusal> {
+        let alloc = services.allocator();
         let enabled = request.publishing_enabled;
         let numbers = operations(&setting.config, request.subscription_ids)?;
         let items = &mut services.items;
         let answered = services
             .subs
-            .set_mode(alloc, items, setting.clock, session, numbers, enabled)?;
+            .set_mode(items, setting.clock, session, numbers, enabled)?;
         let (statuses, others) = apart(alloc, answered);
         let type_id = type_ids::SET_PUBLISHING_MODE_RESPONSE;
         let body = statuses_body(alloc, type_id, setting, caller, statuses.as_slice())?;

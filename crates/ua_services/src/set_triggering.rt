@@ -58,7 +58,6 @@ impl<'a> ItemService<'a> for SetTriggering {
     }
 
     fn change_items(
-        alloc: Global,
         setting: &Setting,
         caller: &Caller,
         request: SetTriggeringRequestView<'a>,
@@ -69,11 +68,8 @@ impl<'a> ItemService<'a> for SetTriggering {
         judge(&setting.config, add.len() + remove.len())?;
         let subscription = SubscriptionId(request.subscription_id);
         let triggering = request.triggering_item_id;
-        match services
-            .items
-            .link(alloc, subscription, triggering, add, remove)?
-        {
-            Ok(linked) => Ok(links_body(alloc, setting, caller, linked)?),
+        match services.items.link(subscription, triggering, add, remove)? {
+            Ok(linked) => Ok(links_body(services.allocator(), setting, caller, linked)?),
             Err(status) => Err(Refusal::Service(status)),
         }
     }

@@ -71,7 +71,6 @@ pub(crate) fn joined(mut before: Served, more: Served) -> Result<Served, AllocEr
 /// A session is over: its subscriptions are deleted with it, or left to their lifetime, and its Publish requests that
 /// wait are answered.
 pub(crate) fn end_session(
-    alloc: Global,
     setting: &Setting,
     number: u32,
     deleting: bool,
@@ -82,41 +81,37 @@ pub(crate) fn end_session(
     let items = &mut services.items;
     let answered = services
         .subs
-        .session_end(alloc, items, setting.clock, number, deleting)?;
-    Ok(served_alone(alloc, answered))
+        .session_end(items, setting.clock, number, deleting)?;
+    Ok(served_alone(services.allocator(), answered))
 }
 
 /// Sessions have timed out, and leave their subscriptions to their lifetime.
 pub(crate) fn end_sessions(
-    alloc: Global,
     setting: &Setting,
     numbers: &[u32],
     services: &mut Services,
 ) -> Result<Served, Halt>
     ensures { Serves result services.new (all_timed_out setting.now services.old numbers.now) }
 {
+    let alloc = services.allocator();
     let mut served = Served {
         replies: ShortList::new(alloc),
         rows: Listed::new(alloc),
         stored: Listed::new(alloc),
     };
     for number in numbers {
-        let more = end_session(alloc, setting, *number, false, services)?;
+        let more = end_session(setting, *number, false, services)?;
         served = joined(served, more)?;
     }
     Ok(served)
 }
 
 /// The timers of the subscriptions that are due. Takes no memory where none is.
-pub(crate) fn fire_timers(
-    alloc: Global,
-    setting: &Setting,
-    services: &mut Services,
-) -> Result<Served, Halt>
+pub(crate) fn fire_timers(setting: &Setting, services: &mut Services) -> Result<Served, Halt>
     ensures serves { Serves result services.new (timers_met setting.now services.old) }
     ensures none { is_some services.old.subs.halted ≡ false → is_any_due setting.now.clock services.old.subs.table.subscriptions ≡ false → IsOk result }
 {
     let items = &mut services.items;
-    let answered = services.subs.timers(alloc, items, setting.clock)?;
-    Ok(served_alone(alloc, answered))
+    let answered = services.subs.timers(items, setting.clock)?;
+    Ok(served_alone(services.allocator(), answered))
 }

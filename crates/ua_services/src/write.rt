@@ -73,7 +73,6 @@ fn note(
 // Shows a value that was accepted to the items that watch its variable, keeps it where the variable is historizing, notes it where
 // there is a store, and stores it. So it is copied for those who queue or keep it, and moved into the variable.
 fn put(
-    alloc: Global,
     services: &mut Services,
     has_store: bool,
     accepted: AcceptedValue,
@@ -84,11 +83,12 @@ fn put(
     ensures stored { (id : NodeId) → place_of id services.old.space.nodes ≡ Some accepted.place →
         OnOk result (stored.new ≡ stored.old ++ for_store has_store (stored_change services.old.space.nodes services.old.history (record { node_id = id; value = accepted.value }) ∷ [])) }
 {
+    let alloc = services.allocator();
     let AcceptedValue { place, value } = accepted;
     let Some(node) = services.space.node_in_order(place) else {
         unreachable!();
     };
-    services.items.show(alloc, &node.id, &value)?;
+    services.items.show(&node.id, &value)?;
     let dropped = keep(alloc, &mut services.history, node, &value)?;
     if has_store {
         note(alloc, node, &value, dropped, stored)?;
@@ -99,7 +99,6 @@ fn put(
 
 // Does with one value what the service does, and answers its outcome. Where there is a store it is noted.
 fn write_one<'a>(
-    alloc: Global,
     services: &mut Services,
     near: &mut Near,
     setting: &Setting,
@@ -110,9 +109,15 @@ fn write_one<'a>(
     ensures stored { OnOk result (stored.new ≡ stored.old ++ stored_judged setting.now.config.has_store services.old (accepted_of setting.now.clock value.now (judged services.old.space.nodes value.now))) }
     ensures status { IfOk result (λ status. status ≡ status_of (judged services.old.space.nodes value.now)) }
 {
-    match accepted(alloc, &services.space, near, setting.clock, value) {
+    match accepted(
+        services.allocator(),
+        &services.space,
+        near,
+        setting.clock,
+        value,
+    ) {
         Ok(accepted) => {
-            put(alloc, services, setting.config.has_store, accepted, stored)?;
+            put(services, setting.config.has_store, accepted, stored)?;
             Ok(Status::GOOD)
         }
         Err(Refusal::Service(status)) => Ok(status),
@@ -123,7 +128,6 @@ fn write_one<'a>(
 
 // Does with all values what the service does, one after the other, and answers their outcomes. Where there is a store they are noted.
 fn write_all<'a>(
-    alloc: Global,
     services: &mut Services,
     setting: &Setting,
     values: ArrayView<'a, WriteValueView<'a>>,
@@ -134,10 +138,10 @@ fn write_all<'a>(
     ensures statuses { IfOk result (λ statuses. statuses.items ≡ (write_of setting.now.clock services.old.space.nodes (or_none values.entry)).statuses) }
     ensures count { IfOk result (λ statuses. length statuses.items ≡ length (or_none values.entry)) }
 {
-    let mut statuses = Vec::with_capacity(alloc, values.len())?;
+    let mut statuses = Vec::with_capacity(services.allocator(), values.len())?;
     let mut near = Near::new();
     for value in values {
-        let status = write_one(alloc, services, &mut near, setting, &value, stored)?;
+        let status = write_one(services, &mut near, setting, &value, stored)?;
         statuses.push(status)?;
     }
     Ok(statuses)
@@ -158,16 +162,16 @@ impl<'a> SessionService<'a> for Write {
     ghost meaning = { write_meaning };
 
     fn serve(
-        alloc: Global,
         setting: &Setting,
         caller: &Caller,
         _session: u32,
         request: WriteRequestView<'a>,
         services: &mut Services,
     ) -> Result<Served, Refusal> {
+        let alloc = services.allocator();
         let values = operations(&setting.config, request.nodes_to_write)?;
         let mut stored = Listed::new(alloc);
-        let statuses = write_all(alloc, services, setting, values, &mut stored)?;
+        let statuses = write_all(services, setting, values, &mut stored)?;
         let type_id = type_ids::WRITE_RESPONSE;
         let body = statuses_body(alloc, type_id, setting, caller, &statuses)?;
         let mut served = reply(alloc, caller, body)?;

@@ -117,7 +117,6 @@ fn send_keep_alive(
 #[tactic(auto, unfolding(crate::specs::Scenes::note_sent))]
 fn send_note(
     round: &mut Round,
-    alloc: Global,
     subscription: &mut Subscription,
     items: &mut Items,
 ) -> Result<(), Halt>
@@ -127,7 +126,7 @@ fn send_note(
     round.count(subscription)?;
     let count = subscription.notifications as usize;
     let number = number_after(subscription.number);
-    let bytes = data_message(alloc, number, round.clock, items, round.own, count)?;
+    let bytes = data_message(number, round.clock, items, round.own, count)?;
     let message = bytes.clone()?;
     subscription.more = items.available(round.own);
     subscription.number = number;
@@ -137,14 +136,19 @@ fn send_note(
         KeptMessage { number, bytes },
     )?;
     let more = subscription.more;
-    reply_asked(round, alloc, subscription, more, message.as_slice())?;
+    reply_asked(
+        round,
+        items.allocator(),
+        subscription,
+        more,
+        message.as_slice(),
+    )?;
     Ok(())
 }
 
 #[tactic(auto, using(crate::proofs::Sendings::rest_overspent, crate::proofs::Sendings::rest_of_more, crate::proofs::Sendings::rest_of_none, crate::proofs::Sendings::rest_of_all), unfolding(crate::specs::Scenes::notes_sent))]
 fn send_notes(
     round: &mut Round,
-    alloc: Global,
     subscription: &mut Subscription,
     requests: &mut Queue<PublishCall>,
     items: &mut Items,
@@ -152,13 +156,13 @@ fn send_notes(
     ensures ok { OnOk result (sending (noting round.new subscription.new items.new) requests.new ≡ notes_sent requests.old (noting round.old subscription.old items.old)) }
     ensures exhausted { IfErr result (λ halt. halt ≡ Exhausted → is_overspent (notes_sent requests.old (noting round.old subscription.old items.old)).noting.round ≡ true) }
 {
-    send_note(round, alloc, subscription, items)?;
+    send_note(round, subscription, items)?;
     while subscription.more {
         let Some(call) = requests.pop() else {
             return Ok(());
         };
         round.asked = Some(call);
-        send_note(round, alloc, subscription, items)?;
+        send_note(round, subscription, items)?;
     }
     Ok(())
 }
@@ -209,7 +213,6 @@ fn start_timer(round: &Round, subscription: &mut Subscription)
 /// One action. At an `Err` nothing is known of what is left.
 pub(crate) fn act(
     round: &mut Round,
-    alloc: Global,
     subscription: &mut Subscription,
     part: &mut SessionSubscriptions,
     items: &mut Items,
@@ -220,15 +223,17 @@ pub(crate) fn act(
     match action {
         Action::Initialise => initialise(round, subscription),
         Action::StartTimer => start_timer(round, subscription),
-        Action::Enqueue => enqueue(round, alloc, part)?,
+        Action::Enqueue => enqueue(round, items.allocator(), part)?,
         Action::Dequeue => round.asked = part.requests.pop(),
         Action::ResetLife => subscription.lifetime = subscription.lifetime_count,
         Action::ResetKeep => subscription.keep_alive = subscription.keep_alive_count,
         Action::CountKeep => subscription.keep_alive = subscription.keep_alive.saturating_sub(1),
         Action::SendNotifications => {
-            return send_notes(round, alloc, subscription, &mut part.requests, items);
+            return send_notes(round, subscription, &mut part.requests, items);
         }
-        Action::SendKeepAlive => return send_keep_alive(round, alloc, subscription),
+        Action::SendKeepAlive => {
+            return send_keep_alive(round, items.allocator(), subscription);
+        },
         Action::SetSent => subscription.sent = true,
         Action::DeleteItems => {
             subscription.kept.clear();
@@ -263,7 +268,6 @@ pub(crate) fn act(
 #[tactic(auto, unfolding(crate::specs::Scenes::row_done))]
 pub(crate) fn do_row(
     round: &mut Round,
-    alloc: Global,
     subscription: &mut Subscription,
     part: &mut SessionSubscriptions,
     items: &mut Items,
@@ -273,7 +277,7 @@ pub(crate) fn do_row(
 {
     let next = next_of(row, subscription.state);
     for action in actions_of(row) {
-        act(round, alloc, subscription, part, items, *action)?;
+        act(round, subscription, part, items, *action)?;
     }
     subscription.state = next;
     Ok(())

@@ -14,7 +14,7 @@ use crate::round::Round;
 use crate::session_part::SessionSubscriptions;
 use crate::subscription::Subscription;
 use server_messages::Halt;
-use std::alloc::{AllocError, Global};
+use std::alloc::AllocError;
 use ua_monitored_items::Items;
 
 // The connection of a request, if there is one, stands with its session.
@@ -36,7 +36,6 @@ fn note_asked(
 /// the row, too. At an `Err` none waits, and nothing else is known of what is left.
 pub(crate) fn fire_of(
     round: &mut Round,
-    alloc: Global,
     subscription: &mut Subscription,
     session: u32,
     part: &mut SessionSubscriptions,
@@ -55,7 +54,7 @@ pub(crate) fn fire_of(
             return Err(Halt::Memory);
         }
     }
-    match fire(round, alloc, subscription, part, items) {
+    match fire(round, subscription, part, items) {
         Ok(()) => Ok(()),
         Err(halt) => {
             part.requests.clear();

@@ -36,7 +36,6 @@ impl LiveSubscriptions {
     #[tactic(auto, unfolding(crate::specs::Ending::session_ended))]
     pub(crate) fn end_session(
         &mut self,
-        alloc: Global,
         round: &mut Round,
         items: &mut Items,
         session: u32,
@@ -44,9 +43,10 @@ impl LiveSubscriptions {
     ) -> Result<(), Halt>
         ensures { Meets result (stage round.new self.new items.new) (session_ended session deleting (stage round.old self.old items.old)) }
     {
+        let alloc = items.allocator();
         let numbers = self.numbers(alloc, session)?;
         let call = Call::SessionEnd { deleting };
-        match self.fire_all(alloc, round, items, numbers.as_slice(), call) {
+        match self.fire_all(round, items, numbers.as_slice(), call) {
             Ok(()) => {}
             Err(halt) => return Err(halt),
         }
@@ -66,13 +66,13 @@ impl LiveSubscriptions {
 
     // The shutdown comes to each subscription, the one with the least number first. At an `Err` nothing is known of what is
     // left.
-    fn close_all(&mut self, alloc: Global, round: &mut Round, items: &mut Items) -> Result<(), Halt>
+    fn close_all(&mut self, round: &mut Round, items: &mut Items) -> Result<(), Halt>
         ensures met { Meets result (stage round.new self.new items.new) (all_met Shutdown (stage round.old self.old items.old) (keys_of self.old.subscriptions)) }
         ensures none { OnOk result (self.new.subscriptions ≡ []) }
         ensures calm { self.old.subscriptions ≡ [] → IsOk result }
     {
         while let Some(number) = first_number(&self.subscriptions) {
-            match self.fire_one(alloc, round, items, SubscriptionId(number), Call::Shutdown) {
+            match self.fire_one(round, items, SubscriptionId(number), Call::Shutdown) {
                 Ok(()) => {}
                 Err(halt) => return Err(halt),
             }
@@ -99,21 +99,16 @@ impl LiveSubscriptions {
     /// The server shuts down: all subscriptions are deleted; then the requests that wait are answered, and nothing of any
     /// session is left. At an `Err` nothing is known of what is left.
     #[tactic(auto, unfolding(crate::specs::Ending::shut_down))]
-    pub(crate) fn shut_down(
-        &mut self,
-        alloc: Global,
-        round: &mut Round,
-        items: &mut Items,
-    ) -> Result<(), Halt>
+    pub(crate) fn shut_down(&mut self, round: &mut Round, items: &mut Items) -> Result<(), Halt>
         ensures meets { Meets result (stage round.new self.new items.new) (shut_down (stage round.old self.old items.old)) }
         ensures empty { OnOk result (self.new ≡ no_table) }
         ensures none { self.old.subscriptions ≡ [] → all_requests (values_of self.old.sessions) ≡ [] → IsOk result }
     {
-        match self.close_all(alloc, round, items) {
+        match self.close_all(round, items) {
             Ok(()) => {}
             Err(halt) => return Err(halt),
         }
-        self.leave_all(alloc, round, Status::BAD_SHUTDOWN)?;
+        self.leave_all(items.allocator(), round, Status::BAD_SHUTDOWN)?;
         Ok(())
     }
 }

@@ -11,7 +11,6 @@ use crate::round::Round;
 use crate::session_part::SessionSubscriptions;
 use crate::subscription::Subscription;
 use server_messages::{Fired, Halt};
-use std::alloc::Global;
 use ua_monitored_items::Items;
 use ua_state_table::{State, Vars, choose};
 
@@ -75,7 +74,6 @@ fn after(
 #[tactic(auto, unfolding(crate::specs::Firing::fired))]
 pub(crate) fn fire(
     round: &mut Round,
-    alloc: Global,
     subscription: &mut Subscription,
     part: &mut SessionSubscriptions,
     items: &mut Items,
@@ -85,7 +83,7 @@ pub(crate) fn fire(
     let before = before(round, subscription, part, items);
     let event = round.call.event();
     let row = choose(&before, event);
-    do_row(round, alloc, subscription, part, items, row)?;
+    do_row(round, subscription, part, items, row)?;
     let after = after(round, before, subscription, part, items);
     round.rows.push(Fired {
         subscription: round.own.0,

@@ -15,13 +15,13 @@
 //! subscription has to send. What is answered to Publish requests comes with each:
 //!
 //! ```text
-//! let made = subscriptions.create(alloc, &mut items, clock, session, settings, true)?;
-//! let told = subscriptions.publish(alloc, &mut items, clock, session, request, acknowledgements)?;
-//! let told = subscriptions.timers(alloc, &mut items, clock)?;        // those that are due, the best first
+//! let made = subscriptions.create(&mut items, clock, session, settings, true)?;
+//! let told = subscriptions.publish(&mut items, clock, session, request, acknowledgements)?;
+//! let told = subscriptions.timers(&mut items, clock)?;        // those that are due, the best first
 //! send(told.replies);                                                // each by the connection that its request came by
 //! let before = subscriptions.vars(subscription, &items);
-//! items.delete(alloc, subscription, item_numbers)?;
-//! let told = subscriptions.items(alloc, &mut items, clock, subscription, before)?;
+//! items.delete(subscription, item_numbers)?;
+//! let told = subscriptions.items(&mut items, clock, subscription, before)?;
 //! ```
 //!
 //! Read docs/SUBSCRIPTIONS.md first, then [`Subscriptions`], then `src/acting.rt`.

@@ -17,7 +17,7 @@ use crate::subscription::Subscription;
 use crate::table::LiveSubscriptions;
 use bytes::Bytes;
 use server_messages::Halt;
-use std::alloc::{AllocError, Global};
+use std::alloc::AllocError;
 use ua_monitored_items::Items;
 use ua_subscription_messages::SubscriptionId;
 use ua_types::Status;
@@ -68,7 +68,6 @@ impl LiveSubscriptions {
     #[tactic(auto, unfolding(crate::specs::Making::refused_one))]
     pub(crate) fn refuse(
         &self,
-        alloc: Global,
         round: &mut Round,
         items: &mut Items,
         session: u32,
@@ -77,6 +76,7 @@ impl LiveSubscriptions {
     ) -> Result<(), Halt>
         ensures { Meets result (stage round.new self.now items.new) (refused_one session settings enabled (stage round.old self.now items.old)) }
     {
+        let alloc = items.allocator();
         round.own = SubscriptionId(0);
         round.call = Call::Create {
             full: true,
@@ -86,7 +86,6 @@ impl LiveSubscriptions {
         let mut subscription = Subscription::unborn(alloc, session);
         fire(
             round,
-            alloc,
             &mut subscription,
             &mut SessionSubscriptions::new(alloc),
             items,
@@ -97,7 +96,6 @@ impl LiveSubscriptions {
     #[tactic(auto, unfolding(crate::specs::Making::added))]
     pub(crate) fn add(
         &mut self,
-        alloc: Global,
         round: &mut Round,
         items: &mut Items,
         session: u32,
@@ -107,6 +105,7 @@ impl LiveSubscriptions {
     ) -> Result<(), Halt>
         ensures { Meets result (stage round.new self.new items.new) (added session number settings enabled (stage round.old self.old items.old)) }
     {
+        let alloc = items.allocator();
         round.own = number;
         round.call = Call::Create {
             full: false,
@@ -119,15 +118,7 @@ impl LiveSubscriptions {
         };
         let mut subscription = Subscription::unborn(alloc, session);
         let askers = &mut self.askers;
-        match fire_of(
-            round,
-            alloc,
-            &mut subscription,
-            session,
-            &mut part,
-            askers,
-            items,
-        ) {
+        match fire_of(round, &mut subscription, session, &mut part, askers, items) {
             Ok(()) => {}
             Err(halt) => return Err(halt),
         }
@@ -146,7 +137,6 @@ impl LiveSubscriptions {
     #[tactic(auto, unfolding(crate::specs::Making::modified))]
     pub(crate) fn modify(
         &mut self,
-        alloc: Global,
         round: &mut Round,
         items: &mut Items,
         session: u32,
@@ -159,7 +149,7 @@ impl LiveSubscriptions {
         if !self.is_own(session, subscription) {
             return Ok(Err(Status::BAD_SUBSCRIPTION_ID_INVALID));
         }
-        match self.fire_one(alloc, round, items, subscription, Call::Modify { settings }) {
+        match self.fire_one(round, items, subscription, Call::Modify { settings }) {
             Ok(()) => Ok(Ok(Revised::new(settings))),
             Err(halt) => Err(halt),
         }
@@ -169,7 +159,6 @@ impl LiveSubscriptions {
     #[tactic(auto, unfolding(crate::specs::Making::republished))]
     pub(crate) fn republish(
         &mut self,
-        alloc: Global,
         round: &mut Round,
         items: &mut Items,
         session: u32,
@@ -184,7 +173,7 @@ impl LiveSubscriptions {
         }
         let bytes = self.kept_bytes(subscription, wanted)?;
         let kept = bytes.is_some();
-        match self.fire_one(alloc, round, items, subscription, Call::Republish { kept }) {
+        match self.fire_one(round, items, subscription, Call::Republish { kept }) {
             Ok(()) => Ok(bytes.ok_or(Status::BAD_MESSAGE_NOT_AVAILABLE)),
             Err(halt) => Err(halt),
         }
@@ -193,20 +182,15 @@ impl LiveSubscriptions {
     /// The timers that are due, the best subscription first. Takes no memory where none is. At an `Err` nothing is known
     /// of what is left.
     #[tactic(auto, using(crate::proofs::Dues::none_due))]
-    pub(crate) fn timers(
-        &mut self,
-        alloc: Global,
-        round: &mut Round,
-        items: &mut Items,
-    ) -> Result<(), Halt>
+    pub(crate) fn timers(&mut self, round: &mut Round, items: &mut Items) -> Result<(), Halt>
         ensures timed { Meets result (stage round.new self.new items.new) (timed (stage round.old self.old items.old)) }
         ensures none { is_any_due round.old.clock self.old.subscriptions ≡ false → IsOk result }
     {
-        let numbers = self.due(alloc, round.clock)?;
+        let numbers = self.due(items.allocator(), round.clock)?;
         if numbers.is_empty() {
             return Ok(());
         }
-        self.fire_all(alloc, round, items, numbers.as_slice(), Call::Timer)
+        self.fire_all(round, items, numbers.as_slice(), Call::Timer)
     }
 
     /// The message of a subscription with this number, as it was first sent, if it is kept.

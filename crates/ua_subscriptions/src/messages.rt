@@ -29,7 +29,6 @@ pub struct KeptMessage {
 /// The bytes of a message with the first values of a subscription's items, at most so many, which are sent by it. At an `Err`
 /// nothing is known of what is left.
 pub(crate) fn data_message(
-    alloc: Global,
     number: u32,
     clock: Moment,
     items: &mut Items,
@@ -39,7 +38,7 @@ pub(crate) fn data_message(
     ensures bytes { IfOk result (λ bytes. bytes ≡ data_change_message number clock (taken_of items.old.items count (numbers_of subscription items.old.items)).notes) }
     ensures items { OnOk result (items.new ≡ record items.old { items = (taken_of items.old.items count (numbers_of subscription items.old.items)).items }) }
 {
-    let mut message = DataChangeMessage::new(alloc, number, clock)?;
+    let mut message = DataChangeMessage::new(items.allocator(), number, clock)?;
     items.send(subscription, count, &mut message)?;
     let mut bytes = message.finish()?;
     // A message that is kept has no room to spare.

@@ -70,7 +70,6 @@ impl LiveSubscriptions {
     #[tactic(auto, unfolding(crate::specs::Named::own_met))]
     pub(crate) fn fire_own(
         &mut self,
-        alloc: Global,
         round: &mut Round,
         items: &mut Items,
         session: u32,
@@ -82,7 +81,7 @@ impl LiveSubscriptions {
         if !self.is_own(session, subscription) {
             return Ok(Status::BAD_SUBSCRIPTION_ID_INVALID);
         }
-        match self.fire_one(alloc, round, items, subscription, call) {
+        match self.fire_one(round, items, subscription, call) {
             Ok(()) => Ok(Status::GOOD),
             Err(halt) => Err(halt),
         }
@@ -92,7 +91,6 @@ impl LiveSubscriptions {
     /// was. At an `Err` nothing is known of what is left.
     pub(crate) fn fire_named(
         &mut self,
-        alloc: Global,
         round: &mut Round,
         items: &mut Items,
         session: u32,
@@ -101,9 +99,9 @@ impl LiveSubscriptions {
     ) -> Result<Listed<Status>, Halt>
         ensures { Comes result (stage round.new self.new items.new) (named_all session call (stage round.old self.old items.old) (or_none numbers.entry)) }
     {
-        let mut results = Listed::new(alloc);
+        let mut results = Listed::new(items.allocator());
         for number in numbers {
-            match self.fire_own(alloc, round, items, session, SubscriptionId(number), call) {
+            match self.fire_own(round, items, session, SubscriptionId(number), call) {
                 Ok(status) => results.push(status)?,
                 Err(halt) => return Err(halt),
             }
@@ -140,7 +138,6 @@ impl LiveSubscriptions {
     #[tactic(auto, unfolding(crate::specs::Named::deleted))]
     pub(crate) fn delete(
         &mut self,
-        alloc: Global,
         round: &mut Round,
         items: &mut Items,
         session: u32,
@@ -148,10 +145,15 @@ impl LiveSubscriptions {
     ) -> Result<Listed<Status>, Halt>
         ensures { Comes result (stage round.new self.new items.new) (deleted session (stage round.old self.old items.old) (or_none numbers.entry)) }
     {
-        match self.fire_named(alloc, round, items, session, numbers, Call::Delete) {
+        match self.fire_named(round, items, session, numbers, Call::Delete) {
             Ok(results) => {
                 if self.has_none(session) {
-                    self.refuse_all(alloc, round, session, Status::BAD_NO_SUBSCRIPTION)?;
+                    self.refuse_all(
+                        items.allocator(),
+                        round,
+                        session,
+                        Status::BAD_NO_SUBSCRIPTION,
+                    )?;
                 }
                 Ok(results)
             }

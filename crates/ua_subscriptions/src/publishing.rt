@@ -106,7 +106,6 @@ impl LiveSubscriptions {
     #[tactic(auto, unfolding(crate::specs::Publishing::answered_to))]
     fn publish_to(
         &mut self,
-        alloc: Global,
         round: &mut Round,
         items: &mut Items,
         numbers: &[u32],
@@ -115,20 +114,18 @@ impl LiveSubscriptions {
         ensures { Meets result (stage round.new self.new items.new) (answered_to numbers.now call (stage round.old self.old items.old)) }
     {
         if numbers.is_empty() {
-            round.replies.push(call.refused(alloc, round.clock, Status::BAD_NO_SUBSCRIPTION)?)?;
+            round.replies.push(call.refused(
+                items.allocator(),
+                round.clock,
+                Status::BAD_NO_SUBSCRIPTION,
+            )?)?;
             return Ok(());
         }
         let best = self.best_waiting(numbers);
         round.asked = Some(call);
         match best {
-            Some(rank) => self.fire_one(
-                alloc,
-                round,
-                items,
-                SubscriptionId(rank.number),
-                Call::Publish,
-            ),
-            None => self.fire_all(alloc, round, items, numbers, Call::Publish),
+            Some(rank) => self.fire_one(round, items, SubscriptionId(rank.number), Call::Publish),
+            None => self.fire_all(round, items, numbers, Call::Publish),
         }
     }
 
@@ -139,7 +136,6 @@ impl LiveSubscriptions {
     #[tactic(auto, unfolding(crate::specs::Publishing::published))]
     pub(crate) fn publish(
         &mut self,
-        alloc: Global,
         round: &mut Round,
         items: &mut Items,
         session: u32,
@@ -148,6 +144,7 @@ impl LiveSubscriptions {
     ) -> Result<(), Halt>
         ensures { Meets result (stage round.new self.new items.new) (published session call (or_none acknowledgements.entry) (stage round.old self.old items.old)) }
     {
+        let alloc = items.allocator();
         let subscriptions = &mut self.subscriptions;
         let results = acknowledge_all(alloc, subscriptions, session, acknowledgements)?;
         let call = PublishCall {
@@ -158,6 +155,6 @@ impl LiveSubscriptions {
             return Ok(tell_note(round, alloc, call, note)?);
         }
         let numbers = self.numbers(alloc, session)?;
-        self.publish_to(alloc, round, items, numbers.as_slice(), call)
+        self.publish_to(round, items, numbers.as_slice(), call)
     }
 }

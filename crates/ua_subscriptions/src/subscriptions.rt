@@ -83,9 +83,10 @@ impl Subscriptions {
     }
 
     // What rows are done with at this clock.
-    fn round(&self, alloc: Global, clock: Moment) -> Round
+    fn round(&self, items: &Items, clock: Moment) -> Round
         ensures { result ≡ round_of self.now clock }
     {
+        let alloc = items.allocator();
         Round {
             bounds: self.bounds,
             clock,
@@ -144,7 +145,6 @@ impl Subscriptions {
     #[tactic(auto, unfolding(crate::specs::SubscriptionCalls::refused))]
     fn refuse(
         &mut self,
-        alloc: Global,
         items: &mut Items,
         clock: Moment,
         session: u32,
@@ -154,9 +154,9 @@ impl Subscriptions {
         requires { self.old.halted ≡ None }
         ensures { Serves result self.old self.new items.new (refused session settings enabled self.old (stage_of self.old items.old clock)) }
     {
-        let mut round = self.round(alloc, clock);
+        let mut round = self.round(items, clock);
         let table = &self.table;
-        match table.refuse(alloc, &mut round, items, session, settings, enabled) {
+        match table.refuse(&mut round, items, session, settings, enabled) {
             Ok(()) => self.settle(round, Ok(Err(Status::BAD_TOO_MANY_SUBSCRIPTIONS))),
             Err(halt) => self.settle(round, Err(halt)),
         }
@@ -166,7 +166,6 @@ impl Subscriptions {
     #[tactic(auto, unfolding(crate::specs::SubscriptionCalls::created_one))]
     fn add(
         &mut self,
-        alloc: Global,
         items: &mut Items,
         clock: Moment,
         session: u32,
@@ -177,12 +176,12 @@ impl Subscriptions {
         requires room { self.old.made < 2 ^ 32 - 1 }
         ensures { Serves result self.old self.new items.new (created_one session settings enabled self.old (stage_of self.old items.old clock)) }
     {
-        let mut round = self.round(alloc, clock);
+        let mut round = self.round(items, clock);
         let number = self.made + 1;
         self.made = number;
         let table = &mut self.table;
         let own = SubscriptionId(number);
-        match table.add(alloc, &mut round, items, session, own, settings, enabled) {
+        match table.add(&mut round, items, session, own, settings, enabled) {
             Ok(()) => {
                 let revised = Revised::new(settings);
                 self.settle(round, Ok(Ok(Created { number, revised })))
@@ -198,7 +197,6 @@ impl Subscriptions {
     #[tactic(auto, unfolding(crate::specs::SubscriptionCalls::created))]
     pub fn create(
         &mut self,
-        alloc: Global,
         items: &mut Items,
         clock: Moment,
         session: u32,
@@ -211,9 +209,9 @@ impl Subscriptions {
             return Err(halt);
         }
         if self.is_full(session) {
-            self.refuse(alloc, items, clock, session, settings, enabled)
+            self.refuse(items, clock, session, settings, enabled)
         } else {
-            self.add(alloc, items, clock, session, settings, enabled)
+            self.add(items, clock, session, settings, enabled)
         }
     }
 
@@ -223,7 +221,6 @@ impl Subscriptions {
     /// `BAD_SUBSCRIPTION_ID_INVALID` where the session has no such subscription.
     pub fn modify(
         &mut self,
-        alloc: Global,
         items: &mut Items,
         clock: Moment,
         session: u32,
@@ -236,10 +233,10 @@ impl Subscriptions {
         if let Some(halt) = self.halted {
             return Err(halt);
         }
-        let mut round = self.round(alloc, clock);
+        let mut round = self.round(items, clock);
         let answer = self
             .table
-            .modify(alloc, &mut round, items, session, subscription, settings);
+            .modify(&mut round, items, session, subscription, settings);
         self.settle(round, answer)
     }
 
@@ -249,7 +246,6 @@ impl Subscriptions {
     /// Tells of each whether it is the session's: `GOOD` or `BAD_SUBSCRIPTION_ID_INVALID`.
     pub fn set_mode(
         &mut self,
-        alloc: Global,
         items: &mut Items,
         clock: Moment,
         session: u32,
@@ -261,11 +257,11 @@ impl Subscriptions {
         if let Some(halt) = self.halted {
             return Err(halt);
         }
-        let mut round = self.round(alloc, clock);
+        let mut round = self.round(items, clock);
         let call = Call::SetMode { enabled };
         let answer = self
             .table
-            .fire_named(alloc, &mut round, items, session, numbers, call);
+            .fire_named(&mut round, items, session, numbers, call);
         self.settle(round, answer)
     }
 
@@ -276,7 +272,6 @@ impl Subscriptions {
     /// its Publish requests that wait are answered `BAD_NO_SUBSCRIPTION`, after the answer to the call.
     pub fn delete(
         &mut self,
-        alloc: Global,
         items: &mut Items,
         clock: Moment,
         session: u32,
@@ -287,10 +282,8 @@ impl Subscriptions {
         if let Some(halt) = self.halted {
             return Err(halt);
         }
-        let mut round = self.round(alloc, clock);
-        let answer = self
-            .table
-            .delete(alloc, &mut round, items, session, numbers);
+        let mut round = self.round(items, clock);
+        let answer = self.table.delete(&mut round, items, session, numbers);
         self.settle(round, answer)
     }
 
@@ -302,7 +295,6 @@ impl Subscriptions {
     /// is answered `BAD_TOO_MANY_PUBLISH_REQUESTS`.
     pub fn publish(
         &mut self,
-        alloc: Global,
         items: &mut Items,
         clock: Moment,
         session: u32,
@@ -314,10 +306,10 @@ impl Subscriptions {
         if let Some(halt) = self.halted {
             return Err(halt);
         }
-        let mut round = self.round(alloc, clock);
+        let mut round = self.round(items, clock);
         let answer = self
             .table
-            .publish(alloc, &mut round, items, session, call, acknowledgements);
+            .publish(&mut round, items, session, call, acknowledgements);
         self.settle(round, answer)
     }
 
@@ -328,7 +320,6 @@ impl Subscriptions {
     /// message isn't kept.
     pub fn republish(
         &mut self,
-        alloc: Global,
         items: &mut Items,
         clock: Moment,
         session: u32,
@@ -341,29 +332,24 @@ impl Subscriptions {
         if let Some(halt) = self.halted {
             return Err(halt);
         }
-        let mut round = self.round(alloc, clock);
+        let mut round = self.round(items, clock);
         let answer = self
             .table
-            .republish(alloc, &mut round, items, session, subscription, wanted);
+            .republish(&mut round, items, session, subscription, wanted);
         self.settle(round, answer)
     }
 
     /// The timers of all subscriptions that are due at this clock, the best subscription first. Takes no memory where none
     /// is due.
-    pub fn timers(
-        &mut self,
-        alloc: Global,
-        items: &mut Items,
-        clock: Moment,
-    ) -> Result<Answered<()>, Halt>
+    pub fn timers(&mut self, items: &mut Items, clock: Moment) -> Result<Answered<()>, Halt>
         ensures serves { Serves result self.old self.new items.new (without_answer self.old (timed (stage_of self.old items.old clock))) }
         ensures none { self.old.halted ≡ None → is_any_due clock self.old.table.subscriptions ≡ false → IsOk result }
     {
         if let Some(halt) = self.halted {
             return Err(halt);
         }
-        let mut round = self.round(alloc, clock);
-        let answer = self.table.timers(alloc, &mut round, items);
+        let mut round = self.round(items, clock);
+        let answer = self.table.timers(&mut round, items);
         self.settle(round, answer)
     }
 
@@ -371,7 +357,6 @@ impl Subscriptions {
     /// answered `BAD_SESSION_CLOSED`, and it is told of no time-out any more.
     pub fn session_end(
         &mut self,
-        alloc: Global,
         items: &mut Items,
         clock: Moment,
         session: u32,
@@ -382,10 +367,8 @@ impl Subscriptions {
         if let Some(halt) = self.halted {
             return Err(halt);
         }
-        let mut round = self.round(alloc, clock);
-        let answer = self
-            .table
-            .end_session(alloc, &mut round, items, session, deleting);
+        let mut round = self.round(items, clock);
+        let answer = self.table.end_session(&mut round, items, session, deleting);
         self.settle(round, answer)
     }
 
@@ -393,12 +376,7 @@ impl Subscriptions {
     /// the Publish requests that wait are answered `BAD_SHUTDOWN`, by the rising number of their sessions, the oldest of each
     /// first. Nothing is left: no subscription, and no session with a request or a note. Takes no memory where no subscription
     /// lives and no request waits.
-    pub fn shut_down(
-        &mut self,
-        alloc: Global,
-        items: &mut Items,
-        clock: Moment,
-    ) -> Result<Answered<()>, Halt>
+    pub fn shut_down(&mut self, items: &mut Items, clock: Moment) -> Result<Answered<()>, Halt>
         ensures serves { Serves result self.old self.new items.new (without_answer self.old (shut_down (stage_of self.old items.old clock))) }
         ensures empty { OnOk result (self.new.table ≡ no_table) }
         ensures none { self.old.halted ≡ None → self.old.table.subscriptions ≡ [] → all_requests (values_of self.old.table.sessions) ≡ [] → IsOk result }
@@ -406,8 +384,8 @@ impl Subscriptions {
         if let Some(halt) = self.halted {
             return Err(halt);
         }
-        let mut round = self.round(alloc, clock);
-        let answer = self.table.shut_down(alloc, &mut round, items);
+        let mut round = self.round(items, clock);
+        let answer = self.table.shut_down(&mut round, items);
         self.settle(round, answer)
     }
 
@@ -415,7 +393,6 @@ impl Subscriptions {
     /// [`Subscriptions::vars`] gave before that.
     pub fn items(
         &mut self,
-        alloc: Global,
         items: &mut Items,
         clock: Moment,
         subscription: SubscriptionId,
@@ -427,11 +404,9 @@ impl Subscriptions {
         if let Some(halt) = self.halted {
             return Err(halt);
         }
-        let mut round = self.round(alloc, clock);
+        let mut round = self.round(items, clock);
         let call = Call::Items { before };
-        let answer = self
-            .table
-            .fire_one(alloc, &mut round, items, subscription, call);
+        let answer = self.table.fire_one(&mut round, items, subscription, call);
         self.settle(round, answer)
     }
 

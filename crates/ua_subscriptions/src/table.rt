@@ -54,7 +54,6 @@ impl Model for LiveSubscriptions {
 // Fires a row, where what the session has of subscriptions is found under its number.
 fn fire_in(
     round: &mut Round,
-    alloc: Global,
     subscription: &mut Subscription,
     sessions: &mut BTreeMap<u32, SessionSubscriptions>,
     askers: &mut AskerList,
@@ -68,10 +67,10 @@ fn fire_in(
     ensures exhausted { IfErr result (λ halt. halt ≡ Exhausted → is_overspent (fired (scene_in round.old subscription.old sessions.old.entries items.old)).round ≡ true) }
     ensures asked { AreAsked sessions.new.entries askers.new }
 {
+    let alloc = items.allocator();
     let Some(session) = subscription.session else {
         return fire(
             round,
-            alloc,
             subscription,
             &mut SessionSubscriptions::new(alloc),
             items,
@@ -80,19 +79,17 @@ fn fire_in(
     match sessions.get_mut(&session) {
         None => fire(
             round,
-            alloc,
             subscription,
             &mut SessionSubscriptions::new(alloc),
             items,
         ),
-        Some(part) => fire_of(round, alloc, subscription, session, part, askers, items),
+        Some(part) => fire_of(round, subscription, session, part, askers, items),
     }
 }
 
 // Fires a row at a subscription, and puts its timer off in the list. At an `Err` its timer stays where it was.
 fn fire_listed(
     round: &mut Round,
-    alloc: Global,
     subscription: &mut Subscription,
     dues: &mut DueList,
     sessions: &mut BTreeMap<u32, SessionSubscriptions>,
@@ -111,7 +108,7 @@ fn fire_listed(
 {
     let own = round.own;
     let before = subscription.due;
-    match fire_in(round, alloc, subscription, sessions, askers, items) {
+    match fire_in(round, subscription, sessions, askers, items) {
         Ok(()) => {}
         Err(halt) => {
             subscription.due = before;
@@ -131,7 +128,6 @@ fn fire_listed(
 #[tactic(auto, unfolding(crate::specs::Tables::met))]
 fn fire_at(
     round: &mut Round,
-    alloc: Global,
     subscriptions: &mut BTreeMap<u32, Subscription>,
     dues: &mut DueList,
     sessions: &mut BTreeMap<u32, SessionSubscriptions>,
@@ -149,7 +145,7 @@ fn fire_at(
     let Some(subscription) = subscriptions.get_mut(&own.0) else {
         return Ok(());
     };
-    match fire_listed(round, alloc, subscription, dues, sessions, askers, items) {
+    match fire_listed(round, subscription, dues, sessions, askers, items) {
         Ok(()) => {}
         Err(halt) => return Err(halt),
     }
@@ -213,7 +209,6 @@ impl LiveSubscriptions {
     #[tactic(auto, unfolding(crate::specs::Tables::met))]
     pub(crate) fn fire_one(
         &mut self,
-        alloc: Global,
         round: &mut Round,
         items: &mut Items,
         own: SubscriptionId,
@@ -226,7 +221,6 @@ impl LiveSubscriptions {
         round.call = call;
         fire_at(
             round,
-            alloc,
             &mut self.subscriptions,
             &mut self.dues,
             &mut self.sessions,
@@ -238,7 +232,6 @@ impl LiveSubscriptions {
     /// It comes to several, one after the other. At an `Err` nothing is known of what is left.
     pub(crate) fn fire_all(
         &mut self,
-        alloc: Global,
         round: &mut Round,
         items: &mut Items,
         numbers: &[u32],
@@ -247,7 +240,7 @@ impl LiveSubscriptions {
         ensures { Meets result (stage round.new self.new items.new) (all_met call (stage round.old self.old items.old) numbers.now) }
     {
         for number in numbers {
-            match self.fire_one(alloc, round, items, SubscriptionId(*number), call) {
+            match self.fire_one(round, items, SubscriptionId(*number), call) {
                 Ok(()) => {}
                 Err(halt) => return Err(halt),
             }

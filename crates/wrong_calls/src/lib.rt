@@ -56,7 +56,6 @@ pub fn values_wait(items: &Items, subscription: SubscriptionId) -> bool
 /// As [`Subscriptions::publish`].
 pub fn publish_taken(
     subscriptions: &mut Subscriptions,
-    alloc: Global,
     items: &mut Items,
     clock: Moment,
     session: u32,
@@ -65,13 +64,12 @@ pub fn publish_taken(
 ) -> Result<Answered<()>, Halt>
     ensures { Serves result subscriptions.old subscriptions.new items.new (without_answer subscriptions.old (published session call (or_none acknowledgements.entry) (stage_of subscriptions.old items.old clock))) }
 {
-    subscriptions.publish(alloc, items, clock, session, call, acknowledgements)
+    subscriptions.publish(items, clock, session, call, acknowledgements)
 }
 
 /// As [`Subscriptions::republish`].
 pub fn message_republished(
     subscriptions: &mut Subscriptions,
-    alloc: Global,
     items: &mut Items,
     clock: Moment,
     session: u32,
@@ -80,31 +78,29 @@ pub fn message_republished(
 ) -> Result<Answered<Result<Bytes, Status>>, Halt>
     ensures { Serves result subscriptions.old subscriptions.new items.new (said subscriptions.old (republished session subscription wanted (stage_of subscriptions.old items.old clock))) }
 {
-    subscriptions.republish(alloc, items, clock, session, subscription, wanted)
+    subscriptions.republish(items, clock, session, subscription, wanted)
 }
 
 /// As [`Subscriptions::timers`].
 pub fn timers_run(
     subscriptions: &mut Subscriptions,
-    alloc: Global,
     items: &mut Items,
     clock: Moment,
 ) -> Result<Answered<()>, Halt>
     ensures { Serves result subscriptions.old subscriptions.new items.new (without_answer subscriptions.old (timed (stage_of subscriptions.old items.old clock))) }
 {
-    subscriptions.timers(alloc, items, clock)
+    subscriptions.timers(items, clock)
 }
 
 /// As [`Subscriptions::shut_down`].
 pub fn all_shut_down(
     subscriptions: &mut Subscriptions,
-    alloc: Global,
     items: &mut Items,
     clock: Moment,
 ) -> Result<Answered<()>, Halt>
     ensures { Serves result subscriptions.old subscriptions.new items.new (without_answer subscriptions.old (shut_down (stage_of subscriptions.old items.old clock))) }
 {
-    subscriptions.shut_down(alloc, items, clock)
+    subscriptions.shut_down(items, clock)
 }
 
 /// As [`Subscriptions::gone`].

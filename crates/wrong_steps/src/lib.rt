@@ -44,11 +44,11 @@ pub fn chunk_taken(channel: &mut Channel, alloc: Global, chunk: &Frame) -> Resul
 }
 
 /// As [`Server::step`].
-pub fn stepped(server: &mut Server, alloc: Global, event: &Event) -> Result<Step, StepFault>
+pub fn stepped(server: &mut Server, event: &Event) -> Result<Step, StepFault>
     ensures step { StepsTo result (world_of server.old) (world_of server.new) (step_on (world_of server.old) event.now) }
     ensures memory { result ≡ Err step_fault.Memory → takes_no_memory_on (world_of server.old) event.now ≡ false }
 {
-    server.step(alloc, event)
+    server.step(event)
 }
 
 /// As [`assemble`].
@@ -68,7 +68,6 @@ pub fn row_traced(out: &mut String, event: u64, fired: &Fired) -> Result<(), All
 /// As [`Pump::run`].
 pub fn pumped<R: Read, W: Write>(
     pump: &mut Pump,
-    alloc: Global,
     server: &mut Server,
     conn: u64,
     reader: &mut Tap<R>,
@@ -78,7 +77,7 @@ pub fn pumped<R: Read, W: Write>(
         let new = scene R.remaining W.contents pump.new (world_of server.new) reader.new writer.new in
         MatchResult result (λ _. Done conn old new) (Stopped conn old new) }
 {
-    pump.run(alloc, server, conn, reader, writer)
+    pump.run(server, conn, reader, writer)
 }
 
 /// As [`Peers::owe_all`].

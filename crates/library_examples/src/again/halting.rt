@@ -76,7 +76,7 @@ fn publish(
         results: Listed::new(alloc),
     };
     match ArrayView::<SubscriptionAcknowledgement>::view(&mut Cursor::new(NULL_LIST)) {
-        Ok(none) => subscriptions.publish(alloc, items, Moment(0), 1, call, none),
+        Ok(none) => subscriptions.publish(items, Moment(0), 1, call, none),
         Err(_) => Err(Halt::Exhausted),
     }
 }
@@ -87,11 +87,11 @@ fn go_on(alloc: Global, subscriptions: &mut Subscriptions, items: &mut Items) ->
     let mut halted = false;
     let mut so = true;
     for id in 1..4 {
-        let created = subscriptions.create(alloc, items, now, 1, SETTINGS, true);
+        let created = subscriptions.create(items, now, 1, SETTINGS, true);
         so = goes_on(&mut halted, created) && so;
         let published = publish(alloc, subscriptions, items, id);
         so = goes_on(&mut halted, published) && so;
-        let modified = subscriptions.modify(alloc, items, now, 1, SubscriptionId(1), SETTINGS);
+        let modified = subscriptions.modify(items, now, 1, SubscriptionId(1), SETTINGS);
         so = goes_on(&mut halted, modified) && so;
     }
     so
@@ -110,8 +110,8 @@ pub(super) fn write_subscriptions(alloc: Global, output: &mut Vec<u8>) -> io::Re
 }
 
 // Whether this may answer an event: a step; want of memory once, which it notes; and behind that only that the server is halted.
-fn steps_on(alloc: Global, server: &mut Server, event: &Event, halted: &mut bool) -> bool {
-    match server.step(alloc, event) {
+fn steps_on(server: &mut Server, event: &Event, halted: &mut bool) -> bool {
+    match server.step(event) {
         Ok(_) => !*halted,
         Err(StepFault::Memory) => {
             let first = !*halted;
@@ -125,11 +125,11 @@ fn steps_on(alloc: Global, server: &mut Server, event: &Event, halted: &mut bool
 
 // Whether each event is answered, or want of memory at one and from then on that the server is halted, also at events that take
 // no memory.
-fn are_answered(alloc: Global, server: &mut Server, events: &[Event]) -> bool {
+fn are_answered(server: &mut Server, events: &[Event]) -> bool {
     let mut halted = false;
     let mut so = true;
     for event in events {
-        so = steps_on(alloc, server, event, &mut halted) && so;
+        so = steps_on(server, event, &mut halted) && so;
     }
     let last = [
         Event::Gone { conn: 1 },
@@ -137,7 +137,7 @@ fn are_answered(alloc: Global, server: &mut Server, events: &[Event]) -> bool {
         Event::Shutdown,
     ];
     for event in &last {
-        so = steps_on(alloc, server, event, &mut halted) && so;
+        so = steps_on(server, event, &mut halted) && so;
     }
     so
 }
@@ -158,7 +158,7 @@ fn server_at<R: Files + AllocGlobal>(rt: &R, nodes: &str) -> io::Result<Server> 
 pub(super) fn write_steps<R: Files + AllocGlobal>(rt: &R, output: &mut Vec<u8>) -> io::Result<()> {
     let events = events_of(rt, "keep_alives.scenario")?;
     let mut server = server_at(rt, "sample.toml")?;
-    let so = are_answered(rt.alloc(), &mut server, events.as_slice());
+    let so = are_answered(&mut server, events.as_slice());
     write!(
         output,
         "each event is answered, or Memory at one and Halted from then on: {so}\n"

@@ -44,7 +44,6 @@ fn create(
     let mut cursor = Cursor::new(bytes.as_slice());
     match ArrayView::<MonitoredItemCreateRequestView<'_>>::view(&mut cursor) {
         Ok(requests) => Ok(items.create(
-            alloc,
             space,
             Moment(0),
             SUBSCRIPTION,
@@ -84,7 +83,7 @@ fn modify(
     let bytes = bytes_of(alloc, MODIFIED)?;
     let mut cursor = Cursor::new(bytes.as_slice());
     match ArrayView::<MonitoredItemModifyRequestView<'_>>::view(&mut cursor) {
-        Ok(requests) => Ok(items.modify(alloc, SUBSCRIPTION, Timestamps::Both, requests)),
+        Ok(requests) => Ok(items.modify(SUBSCRIPTION, Timestamps::Both, requests)),
         Err(_) => Err(failed()),
     }
 }
@@ -141,10 +140,10 @@ fn write_notes(alloc: Global, items: &mut Items, output: &mut Vec<u8>) -> io::Re
 }
 
 // Takes what the items have to tell as values, and writes a line for each.
-fn write_taken(alloc: Global, items: &mut Items, output: &mut Vec<u8>) -> io::Result<()> {
-    let mut taken = items.take_notes(alloc, SUBSCRIPTION, 9);
+fn write_taken(items: &mut Items, output: &mut Vec<u8>) -> io::Result<()> {
+    let mut taken = items.take_notes(SUBSCRIPTION, 9);
     if taken.is_err() {
-        taken = items.take_notes(alloc, SUBSCRIPTION, 9);
+        taken = items.take_notes(SUBSCRIPTION, 9);
     }
     let Ok(notes) = taken else {
         return output.write_all(TWICE);
@@ -177,11 +176,11 @@ fn show(
         changed(11, Variant::UInt16(Content::Scalar(count))),
         changed(12, Variant::Int32(Content::Scalar(speed))),
     ];
-    if items.sample(alloc, &changes).is_ok() {
+    if items.sample(&changes).is_ok() {
         return Ok(());
     }
     write_notes(alloc, items, output)?;
-    if items.sample(alloc, &changes).is_err() {
+    if items.sample(&changes).is_err() {
         output.write_all(TWICE)?;
     }
     Ok(())
@@ -200,12 +199,12 @@ fn write_all(
     write_notes(alloc, items, output)?;
     for count in [8, 9] {
         let change = changed(11, Variant::UInt16(Content::Scalar(count)));
-        items.sample(alloc, &[change])?;
+        items.sample(&[change])?;
     }
     write_modified(alloc, items, output)?;
     write_notes(alloc, items, output)?;
     show(alloc, items, 10, 11, output)?;
-    write_taken(alloc, items, output)
+    write_taken(items, output)
 }
 
 /// Writes what becomes of two items that are made, what they tell at first and then of a value each; and what becomes of them as

@@ -95,7 +95,7 @@ fn time_few(rt: &HostRuntime, server: &mut Server, first: u32, rounds: u32) -> i
     for round in 0..rounds {
         let number = first.saturating_add(round);
         let asked = request(alloc, number, &BROWSE, TOKEN, fields.as_slice())?;
-        sent = hand_in(alloc, server, asked)?;
+        sent = hand_in(server, asked)?;
     }
     let each = elapsed(rt, start) / u128::from(rounds).max(1);
     let mut errors = rt.stderr();
@@ -113,7 +113,7 @@ fn time_many(rt: &HostRuntime, server: &mut Server, first: u32) -> io::Result<()
     let fields = joined(alloc, &[NO_VIEW, FOLDER, HIERARCHY])?;
     let start = Instant::now(rt);
     let asked = request(alloc, first, &BROWSE, TOKEN, fields.as_slice())?;
-    let mut sent = hand_in(alloc, server, asked)?;
+    let mut sent = hand_in(server, asked)?;
     let page = elapsed(rt, start);
     let start = Instant::now(rt);
     let pages = MANY / 1000;
@@ -122,7 +122,7 @@ fn time_many(rt: &HostRuntime, server: &mut Server, first: u32) -> io::Result<()
         let fields = joined(alloc, &[ONE_POINT, serial.as_slice()])?;
         let number = first.saturating_add(point);
         let asked = request(alloc, number, &NEXT, TOKEN, fields.as_slice())?;
-        sent = sent.saturating_add(hand_in(alloc, server, asked)?);
+        sent = sent.saturating_add(hand_in(server, asked)?);
     }
     let each = elapsed(rt, start) / u128::from(pages.saturating_sub(1)).max(1);
     let mut errors = rt.stderr();

@@ -51,10 +51,10 @@ fn visit(alloc: Global, server: &mut Server, number: u32) -> io::Result<usize> {
     let greeted = greet_on(alloc, server, number, token)?;
     let fields = joined(alloc, &[NO_TIMES, STATE])?;
     let read = request_on(alloc, number, 4, &READ, token, fields.as_slice())?;
-    let answered = hand_in_on(alloc, server, conn, read)?;
+    let answered = hand_in_on(server, conn, read)?;
     let close = request_on(alloc, number, 5, &CLOSE, token, WITH_SUBSCRIPTIONS)?;
-    let closed = hand_in_on(alloc, server, conn, close)?;
-    tell(alloc, server, &Event::Gone { conn })?;
+    let closed = hand_in_on(server, conn, close)?;
+    tell(server, &Event::Gone { conn })?;
     Ok(greeted.saturating_add(answered).saturating_add(closed))
 }
 

@@ -67,7 +67,7 @@ fn time_writes(rt: &HostRuntime, server: &mut Server) -> io::Result<()> {
         let fields = values(alloc, round.saturating_mul(EACH))?;
         let number = round.saturating_add(4);
         let asked = request(alloc, number, &WRITE, TOKEN, fields.as_slice())?;
-        sent = sent.saturating_add(hand_in(alloc, server, asked)?);
+        sent = sent.saturating_add(hand_in(server, asked)?);
     }
     let each = elapsed(rt, start) / u128::from(MANY);
     let mut errors = rt.stderr();
@@ -96,7 +96,7 @@ fn time_pages(rt: &HostRuntime, server: &mut Server, first: u32) -> io::Result<(
         }
         let number = first.saturating_add(point);
         let asked = request(alloc, number, &READ_HISTORY, TOKEN, fields.as_slice())?;
-        sent = sent.saturating_add(hand_in(alloc, server, asked)?);
+        sent = sent.saturating_add(hand_in(server, asked)?);
     }
     let each = elapsed(rt, start) / u128::from(pages);
     let mut errors = rt.stderr();

@@ -69,13 +69,13 @@ fn ask(
     fields: &[u8],
 ) -> io::Result<usize> {
     let asked = request(alloc, number, type_id, TOKEN, fields)?;
-    hand_in(alloc, server, asked)
+    hand_in(server, asked)
 }
 
 // The timer of the subscription comes, and the message with all that waits is made. Says how many bytes are sent.
-fn fire(server: &mut Server, alloc: Global, timer: u32) -> io::Result<usize> {
+fn fire(server: &mut Server, timer: u32) -> io::Result<usize> {
     let now = Moment(i64::from(timer).saturating_mul(TIMER));
-    let step = tell(alloc, server, &Event::Tick { now })?;
+    let step = tell(server, &Event::Tick { now })?;
     sent_at(&step)
 }
 
@@ -105,7 +105,7 @@ fn time_one(rt: &HostRuntime, server: &mut Server, round: u32, told: &mut Told) 
         acknowledged.as_slice(),
     )?;
     let start = Instant::now(rt);
-    told.sent = fire(server, alloc, round.saturating_add(2))?;
+    told.sent = fire(server, round.saturating_add(2))?;
     told.made = told.made.saturating_add(elapsed(rt, start));
     let this = round.saturating_add(2).to_le_bytes();
     let again = joined(alloc, &[FIRST, this.as_slice()])?;
@@ -117,7 +117,7 @@ fn time_one(rt: &HostRuntime, server: &mut Server, round: u32, told: &mut Told) 
         again.as_slice(),
     )?;
     let start = Instant::now(rt);
-    told.resent = hand_in(alloc, server, asked)?;
+    told.resent = hand_in(server, asked)?;
     told.again = told.again.saturating_add(elapsed(rt, start));
     Ok(())
 }

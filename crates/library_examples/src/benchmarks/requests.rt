@@ -78,17 +78,17 @@ pub(crate) fn joined(alloc: Global, parts: &[&[u8]]) -> Result<Vec<u8>, AllocErr
 }
 
 /// Tells the server what happens.
-pub(crate) fn tell(alloc: Global, server: &mut Server, event: &Event) -> io::Result<Step> {
-    match server.step(alloc, event) {
+pub(crate) fn tell(server: &mut Server, event: &Event) -> io::Result<Step> {
+    match server.step(event) {
         Ok(step) => Ok(step),
         Err(_) => Err(failed()),
     }
 }
 
 // Hands bytes of a connection to the server.
-fn step(alloc: Global, server: &mut Server, conn: u64, bytes: Vec<u8>) -> io::Result<Step> {
+fn step(server: &mut Server, conn: u64, bytes: Vec<u8>) -> io::Result<Step> {
     let bytes = Bytes::from_vec(bytes)?;
-    tell(alloc, server, &Event::Bytes { conn, bytes })
+    tell(server, &Event::Bytes { conn, bytes })
 }
 
 /// How many bytes a step sends, where it closes no connection.
@@ -104,25 +104,20 @@ pub(crate) fn sent_at(step: &Step) -> io::Result<usize> {
 }
 
 /// Hands bytes of the first connection to the server, and says how many it sends.
-pub(crate) fn hand_in(alloc: Global, server: &mut Server, bytes: Vec<u8>) -> io::Result<usize> {
-    hand_in_on(alloc, server, 1, bytes)
+pub(crate) fn hand_in(server: &mut Server, bytes: Vec<u8>) -> io::Result<usize> {
+    hand_in_on(server, 1, bytes)
 }
 
 /// Hands bytes of a connection to the server, and says how many it sends.
-pub(crate) fn hand_in_on(
-    alloc: Global,
-    server: &mut Server,
-    conn: u64,
-    bytes: Vec<u8>,
-) -> io::Result<usize> {
-    let step = step(alloc, server, conn, bytes)?;
+pub(crate) fn hand_in_on(server: &mut Server, conn: u64, bytes: Vec<u8>) -> io::Result<usize> {
+    let step = step(server, conn, bytes)?;
     sent_at(&step)
 }
 
 // Hands bytes to the server, and writes the bodies of what it sends.
 fn write_answers(rt: &HostRuntime, server: &mut Server, bytes: Vec<u8>) -> io::Result<()> {
     let alloc = rt.alloc();
-    let step = step(alloc, server, 1, bytes)?;
+    let step = step(server, 1, bytes)?;
     let mut output = rt.stdout();
     for out in step.outs.as_slice() {
         match out {
@@ -209,13 +204,13 @@ pub(crate) fn greet_on(
 ) -> io::Result<usize> {
     let conn = u64::from(number);
     let opened = Event::Opened { conn, key: [0; 32] };
-    tell(alloc, server, &opened)?;
+    tell(server, &opened)?;
     let opening = joined(alloc, &[HELLO, OPEN])?;
-    let acknowledged = hand_in_on(alloc, server, conn, opening)?;
+    let acknowledged = hand_in_on(server, conn, opening)?;
     let create = request_on(alloc, number, 2, &CREATE, NO_TOKEN, NO_CLIENT)?;
-    let created = hand_in_on(alloc, server, conn, create)?;
+    let created = hand_in_on(server, conn, create)?;
     let activate = request_on(alloc, number, 3, &ACTIVATE, token, NO_USER)?;
-    let activated = hand_in_on(alloc, server, conn, activate)?;
+    let activated = hand_in_on(server, conn, activate)?;
     Ok(
         acknowledged
             .saturating_add(created)
@@ -223,26 +218,33 @@ pub(crate) fn greet_on(
     )
 }
 
+/// A request, and what it is called.
+#[derive(Clone, Copy)]
+pub(crate) struct Asked<'a> {
+    pub(crate) name: &'a str,
+    pub(crate) type_id: &'a [u8; 4],
+    pub(crate) fields: &'a [u8],
+}
+
 /// Hands in a request so many times, and tells how many are answered in a second, and how long an answer is.
 pub(crate) fn time_requests(
     rt: &HostRuntime,
     server: &mut Server,
-    name: &str,
-    type_id: &[u8; 4],
-    fields: &[u8],
+    asked: Asked<'_>,
     first: u32,
     rounds: u32,
 ) -> io::Result<()> {
+    let Asked {
+        name,
+        type_id,
+        fields,
+    } = asked;
     let alloc = rt.alloc();
     let start = Instant::now(rt);
     let mut sent = 0;
     for round in 0..rounds {
         let number = first.saturating_add(round);
-        sent = hand_in(
-            alloc,
-            server,
-            request(alloc, number, type_id, TOKEN, fields)?,
-        )?;
+        sent = hand_in(server, request(alloc, number, type_id, TOKEN, fields)?)?;
     }
     let each_second = u128::from(rounds) * 1_000_000_000 / elapsed(rt, start).max(1);
     let mut errors = rt.stderr();
@@ -262,55 +264,55 @@ fn listed(alloc: Global, before: &[u8], entry: &[u8], many: u32) -> Result<Vec<u
     Ok(fields)
 }
 
-// Hands in requests for one and for 1,000 of these, the first under this number, and gives the number of the next one.
+// Hands in requests for one and for 1,000 of an entry, behind these fields, the first under this number, and gives the number of the
+// next one.
 fn time_both(
     rt: &HostRuntime,
     server: &mut Server,
-    name: &str,
-    type_id: &[u8; 4],
-    (before, entry): (&[u8], &[u8]),
+    (before, entry): (&[u8], Asked<'_>),
     first: u32,
     rounds: u32,
 ) -> io::Result<u32> {
     let alloc = rt.alloc();
-    let one = listed(alloc, before, entry, 1)?;
-    let of_one = format!(in alloc; "{name} of one value")?;
-    time_requests(
-        rt,
-        server,
-        of_one.as_str(),
+    let Asked {
+        name,
         type_id,
-        one.as_slice(),
-        first,
-        rounds,
-    )?;
-    let many = listed(alloc, before, entry, 1000)?;
+        fields,
+    } = entry;
+    let one = listed(alloc, before, fields, 1)?;
+    let of_one = format!(in alloc; "{name} of one value")?;
+    let asked = Asked {
+        name: of_one.as_str(),
+        type_id,
+        fields: one.as_slice(),
+    };
+    time_requests(rt, server, asked, first, rounds)?;
+    let many = listed(alloc, before, fields, 1000)?;
     let of_many = format!(in alloc; "{name} of 1000 values")?;
     let next = first.saturating_add(rounds);
-    time_requests(
-        rt,
-        server,
-        of_many.as_str(),
+    let asked = Asked {
+        name: of_many.as_str(),
         type_id,
-        many.as_slice(),
-        next,
-        rounds,
-    )?;
+        fields: many.as_slice(),
+    };
+    time_requests(rt, server, asked, next, rounds)?;
     Ok(next.saturating_add(rounds))
 }
 
 fn time_all(rt: &HostRuntime, server: &mut Server, rounds: u32) -> io::Result<()> {
     greet(rt.alloc(), server)?;
-    let next = time_both(rt, server, "reads", &READ, (NO_TIMES, VALUE), 4, rounds)?;
-    let next = time_both(
-        rt,
-        server,
-        "writes",
-        &WRITE,
-        (b"".as_slice(), WRITTEN),
-        next,
-        rounds,
-    )?;
+    let reads = Asked {
+        name: "reads",
+        type_id: &READ,
+        fields: VALUE,
+    };
+    let writes = Asked {
+        name: "writes",
+        type_id: &WRITE,
+        fields: WRITTEN,
+    };
+    let next = time_both(rt, server, (NO_TIMES, reads), 4, rounds)?;
+    let next = time_both(rt, server, (b"".as_slice(), writes), next, rounds)?;
     cut_short(rt, server, next)
 }
 

@@ -1,6 +1,6 @@
 //! Reads of many variables: in the order of their ids, and in one without a pattern.
 
-use super::requests::{NO_TIMES, READ, VALUE, greet, server_of, time_requests};
+use super::requests::{Asked, NO_TIMES, READ, VALUE, greet, server_of, time_requests};
 use server_core::Server;
 use std::alloc::{AllocError, Global};
 use std::io;
@@ -75,12 +75,20 @@ fn time_all(rt: &HostRuntime, server: &mut Server, rounds: u32) -> io::Result<()
     let alloc = rt.alloc();
     greet(alloc, server)?;
     let fields = in_order(alloc)?;
-    let name = "reads of 996 variables in order";
-    time_requests(rt, server, name, &READ, fields.as_slice(), 4, rounds)?;
+    let asked = Asked {
+        name: "reads of 996 variables in order",
+        type_id: &READ,
+        fields: fields.as_slice(),
+    };
+    time_requests(rt, server, asked, 4, rounds)?;
     let fields = scattered(alloc)?;
-    let name = "reads of 996 variables out of order";
+    let asked = Asked {
+        name: "reads of 996 variables out of order",
+        type_id: &READ,
+        fields: fields.as_slice(),
+    };
     let next = rounds.saturating_add(4);
-    time_requests(rt, server, name, &READ, fields.as_slice(), next, rounds)
+    time_requests(rt, server, asked, next, rounds)
 }
 
 /// Reads 996 variables, in the order of their ids and out of it, each so many times.

@@ -4,7 +4,7 @@ use Rattle.stream_server.specs.Pumped as pump
 use Rattle.stream_server.specs.Pumped.{State, scene}
 use Rattle.commands.specs.Commands.{Pipes}
 use Rattle.commands.specs.NodeFiles.{Made}
-use Rattle.commands.specs.declared.status.Status.{Status}
+use Rattle.commands.specs.declared.exit_status.ExitStatus.{ExitStatus}
 use Rattle.commands.proofs.PipeLemmas.{piped}
 use Rattle.commands.proofs.program.pipe.Goals as goal
 
@@ -19,7 +19,7 @@ returns g c =
     let output' = c.run-ran.new.writer in
     let server = world_of c.run-ran.new.server in
     let sent = c.run-ran.new.self in
-    subst (λ (s : Status). Pipes remaining contents input input' output output' made s) (sym c.pumped.ensures)
+    subst (λ (s : ExitStatus). Pipes remaining contents input input' output output' made s) (sym c.pumped.ensures)
     (piped remaining contents input input' output output' made server sent c.run-ran.result
     (subst (λ (s : State). MatchResult c.run-ran.result
     (λ x. pump.Done 1 (scene remaining contents 0 s input output) (scene remaining contents sent server input' output'))

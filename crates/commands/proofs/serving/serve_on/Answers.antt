@@ -4,8 +4,8 @@ use Rattle.socket_server.specs.declared.serve_fault.ServeFault.TheVariants as se
 use Rattle.scenario_run.specs.Held.{place}
 use Rattle.commands.specs.Said.{Says}
 use Rattle.commands.specs.Serving.{ServesOn, listening_line}
-use Rattle.commands.specs.declared.status.Status.{Status}
-use Rattle.commands.specs.declared.status.Status.TheVariants.{Done}
+use Rattle.commands.specs.declared.exit_status.ExitStatus.{ExitStatus}
+use Rattle.commands.specs.declared.exit_status.ExitStatus.TheVariants.{Done}
 use Rattle.commands.proofs.ServeLemmas.{ended, refused}
 use Rattle.commands.proofs.serving.serve_on.Goals as goal
 
@@ -31,7 +31,7 @@ returns-in-Done g c =
     let new = place g.O.Write.contents c.serve_and_log-ran.new.output in
     let said : Says (listening_line c.args.options.now.port) old mid Done =
     subst (λ (text : List ℕ). Says text old mid Done) (c.as_str.ensures.value ∙ c.in-Ok.ensures)
-    (subst (λ (status : Status). Says c.as_str.result.now old mid status) c.in-Done.is c.say.ensures)
+    (subst (λ (status : ExitStatus). Says c.as_str.result.now old mid status) c.in-Done.is c.say.ensures)
     in
     subst (ServesOn old new c.args.idle c.args.options.now first) (sym c.served-in-Done.ensures)
     (ended old new c.args.idle c.args.options.now first c.serve_and_log-ran.result (_, c.in-Ok-listen.ensures.ok, mid, said, c.serve_and_log-ran.ensures))

@@ -1,6 +1,6 @@
 use Rattle.ua_monitored_items.specs.Modifying.{modified_with}
 use Rattle.ua_monitored_items.proofs.Edits.{changed_there}
-use Rattle.ua_monitored_items.proofs.numbered.modify_at.Goals as goal
+use Rattle.ua_monitored_items.proofs.counted_items.modify_at.Goals as goal
 
 pub returns-clause-items : goal.returns-clause-items
 returns-clause-items c =

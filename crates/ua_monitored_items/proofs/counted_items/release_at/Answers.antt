@@ -1,6 +1,6 @@
 use Rattle.ua_monitored_items.specs.Item.{released_in}
 use Rattle.ua_monitored_items.proofs.Edits.{changed_there}
-use Rattle.ua_monitored_items.proofs.numbered.release_at.Goals as goal
+use Rattle.ua_monitored_items.proofs.counted_items.release_at.Goals as goal
 
 pub returns-clause-items : goal.returns-clause-items
 returns-clause-items c =

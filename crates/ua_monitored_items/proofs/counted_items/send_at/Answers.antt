@@ -4,7 +4,7 @@ use Rattle.ua_monitored_items.specs.Item.{gave, waiting_in}
 use Rattle.ua_monitored_items.specs.ItemTables.{item_at}
 use Rattle.ua_monitored_items.specs.Items.{nat_least, taken_from, nothing_taken}
 use Rattle.ua_monitored_items.proofs.Edits.{changed_there}
-use Rattle.ua_monitored_items.proofs.numbered.send_at.Goals as goal
+use Rattle.ua_monitored_items.proofs.counted_items.send_at.Goals as goal
 
 pub returns-clause-items : goal.returns-clause-items
 returns-clause-items c =

@@ -1,6 +1,6 @@
 use Rattle.ua_monitored_items.specs.Item.{with_links}
 use Rattle.ua_monitored_items.proofs.Edits.{changed_there}
-use Rattle.ua_monitored_items.proofs.numbered.set_links_at.Goals as goal
+use Rattle.ua_monitored_items.proofs.counted_items.set_links_at.Goals as goal
 
 pub returns-clause-items : goal.returns-clause-items
 returns-clause-items c =

@@ -1,7 +1,7 @@
 use Rattle.ua_monitored_items.specs.Item.{seen}
 use Rattle.ua_monitored_items.proofs.Edits.{changed_there, same_there}
 use Rattle.ua_monitored_items.proofs.Serving.{on_any}
-use Rattle.ua_monitored_items.proofs.numbered.visit_at.Goals as goal
+use Rattle.ua_monitored_items.proofs.counted_items.visit_at.Goals as goal
 
 pub returns-in_err-see-clause-err : goal.returns-in_err-see-clause-err
 returns-in_err-see-clause-err c =

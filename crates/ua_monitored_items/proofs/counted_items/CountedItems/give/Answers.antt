@@ -2,7 +2,7 @@ use Rattle.std.specs.BTreeMap as tree
 use Rattle.std.specs.Ordering.{nat_cmp}
 use Rattle.ua_monitored_items.specs.Counts.{counts_with}
 use Rattle.ua_monitored_items.proofs.Counting.{counts_alike}
-use Rattle.ua_monitored_items.proofs.numbered.Numbered.give.Goals as goal
+use Rattle.ua_monitored_items.proofs.counted_items.CountedItems.give.Goals as goal
 
 pub give_all-given-requires : goal.give_all-given-requires
 give_all-given-requires c =

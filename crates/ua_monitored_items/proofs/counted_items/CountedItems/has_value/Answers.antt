@@ -4,7 +4,7 @@ use Rattle.ua_monitored_items.specs.Counts.{IsCountOf, with_value}
 use Rattle.ua_monitored_items.specs.ItemTables.{numbers_of}
 use Rattle.ua_monitored_items.specs.Items.{any_waits}
 use Rattle.ua_monitored_items.proofs.Counting.{any_value}
-use Rattle.ua_monitored_items.proofs.numbered.Numbered.has_value.Goals as goal
+use Rattle.ua_monitored_items.proofs.counted_items.CountedItems.has_value.Goals as goal
 
 pub returns-in-Some : goal.returns-in-Some
 returns-in-Some c =

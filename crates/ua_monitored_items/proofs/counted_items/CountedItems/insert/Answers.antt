@@ -3,7 +3,7 @@ use Rattle.std.specs.Prelude.{nat_lt}
 use Rattle.ua_monitored_items.specs.ItemTables.{item_at}
 use Rattle.ua_monitored_items.specs.Counts.{AreCounts}
 use Rattle.ua_monitored_items.proofs.Counting.{held_counts, can_count_more, counts_put}
-use Rattle.ua_monitored_items.proofs.numbered.Numbered.insert.Goals as goal
+use Rattle.ua_monitored_items.proofs.counted_items.CountedItems.insert.Goals as goal
 
 pub invariant_of-self-in_err-insert : goal.invariant_of-self-in_err-insert
 invariant_of-self-in_err-insert c =

@@ -2,7 +2,7 @@ use Rattle.std.proofs.Common.{sym, ◌∙◌}
 use Rattle.ua_monitored_items.specs.Modifying.{modified_with}
 use Rattle.ua_monitored_items.proofs.Counting.{can_count, counts_changed}
 use Rattle.ua_monitored_items.proofs.Tables.{there_modified_with}
-use Rattle.ua_monitored_items.proofs.numbered.Numbered.modify.Goals as goal
+use Rattle.ua_monitored_items.proofs.counted_items.CountedItems.modify.Goals as goal
 
 pub count-requires : goal.count-requires
 count-requires c =

@@ -1,7 +1,7 @@
 use Rattle.ua_monitored_items.specs.Item.{released_in}
 use Rattle.ua_monitored_items.proofs.Counting.{can_count, counts_changed}
 use Rattle.ua_monitored_items.proofs.Releasing.{there_released}
-use Rattle.ua_monitored_items.proofs.numbered.Numbered.release.Goals as goal
+use Rattle.ua_monitored_items.proofs.counted_items.CountedItems.release.Goals as goal
 
 pub count-requires : goal.count-requires
 count-requires c =

@@ -1,7 +1,7 @@
 use Rattle.std.proofs.Common.{ap, sym}
 use Rattle.std.specs.Prelude.{nat_lt}
 use Rattle.ua_monitored_items.proofs.Counting.{can_count_less, counts_removed}
-use Rattle.ua_monitored_items.proofs.numbered.Numbered.remove.Goals as goal
+use Rattle.ua_monitored_items.proofs.counted_items.CountedItems.remove.Goals as goal
 
 pub count-requires : goal.count-requires
 count-requires c =

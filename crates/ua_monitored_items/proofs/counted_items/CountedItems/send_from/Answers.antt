@@ -4,7 +4,7 @@ use Rattle.ua_monitored_items.specs.ItemTables.{item_at}
 use Rattle.ua_monitored_items.specs.Items.{nat_least, nothing_taken}
 use Rattle.ua_monitored_items.specs.Taking.{waiting_at}
 use Rattle.ua_monitored_items.proofs.Counting.{can_count, counts_changed, taken_is}
-use Rattle.ua_monitored_items.proofs.numbered.Numbered.send_from.Goals as goal
+use Rattle.ua_monitored_items.proofs.counted_items.CountedItems.send_from.Goals as goal
 
 pub count-requires : goal.count-requires
 count-requires c =

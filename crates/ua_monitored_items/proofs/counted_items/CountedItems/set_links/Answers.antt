@@ -1,7 +1,7 @@
 use Rattle.std.proofs.Common.{refl}
 use Rattle.ua_monitored_items.specs.Item.{with_links}
 use Rattle.ua_monitored_items.proofs.Counting.{can_count, counts_changed}
-use Rattle.ua_monitored_items.proofs.numbered.Numbered.set_links.Goals as goal
+use Rattle.ua_monitored_items.proofs.counted_items.CountedItems.set_links.Goals as goal
 
 pub count-requires : goal.count-requires
 count-requires c =

@@ -1,7 +1,7 @@
 use Rattle.ua_monitored_items.specs.Preparing.{moded_from}
 use Rattle.ua_monitored_items.proofs.Counting.{can_count, counts_changed}
 use Rattle.ua_monitored_items.proofs.Tables.{there_moded}
-use Rattle.ua_monitored_items.proofs.numbered.Numbered.set_mode.Goals as goal
+use Rattle.ua_monitored_items.proofs.counted_items.CountedItems.set_mode.Goals as goal
 
 pub count-requires : goal.count-requires
 count-requires c =

@@ -2,7 +2,7 @@ use Rattle.std.proofs.Common.{sym, ◌∙◌}
 use Rattle.ua_monitored_items.specs.Item.{seen}
 use Rattle.ua_monitored_items.proofs.Counting.{can_count, counts_changed}
 use Rattle.ua_monitored_items.proofs.Tables.{there_seen}
-use Rattle.ua_monitored_items.proofs.numbered.Numbered.visit.Goals as goal
+use Rattle.ua_monitored_items.proofs.counted_items.CountedItems.visit.Goals as goal
 
 pub count-requires : goal.count-requires
 count-requires c =
