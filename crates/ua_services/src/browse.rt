@@ -10,17 +10,14 @@ ghost use Rattle.ua_services.specs.RisingSerials.{browse_rises};
 use crate::browse_results::tell;
 use crate::caller::Caller;
 use crate::operations::operations;
-use crate::paging::{Pages, serve_pages};
+use crate::paging::{Pages, Shown, serve_pages};
 use crate::services::Services;
 use crate::session_service::SessionService;
 use server_messages::{Halt, Served, Setting};
-use std::alloc::Global;
 use ua_browse::{browse, page_size};
-use ua_history::History;
 use ua_messages::{MessageBody, type_ids};
 use ua_service_messages::{BrowseDescriptionView, BrowseRequestView, BrowseResult};
 use ua_session::Points;
-use ua_space::Space;
 use ua_types::{Config, Refusal, Status};
 
 // How many references a page has at most under this configuration.
@@ -55,15 +52,13 @@ impl<'a> Pages<'a> for FirstPages {
 
     fn page(
         &self,
-        alloc: Global,
-        space: &Space,
-        _history: &History,
+        shown: &Shown<'_>,
         points: &mut Points,
         description: BrowseDescriptionView<'a>,
         body: &mut MessageBody,
     ) -> Result<(), Halt> {
-        let page = browse(alloc, space, points, self.size, &description);
-        tell(alloc, page, body)
+        let page = browse(shown.alloc, shown.space, points, self.size, &description);
+        tell(shown.alloc, page, body)
     }
 
     ghost rises = { λ pages space history. browse_rises space pages.size };

@@ -11,13 +11,12 @@ ghost use Rattle.ua_services.specs.RisingSerials.{go_on_rises};
 use crate::browse_results::tell;
 use crate::caller::Caller;
 use crate::operations::operations;
-use crate::paging::{Pages, serve_pages};
+use crate::paging::{Pages, Shown, serve_pages};
 use crate::services::Services;
 use crate::session_service::SessionService;
 use server_messages::{Halt, Served, Setting};
 use std::alloc::Global;
 use ua_browse::{Page, browse_next, release};
-use ua_history::History;
 use ua_messages::{MessageBody, type_ids};
 use ua_service_messages::{BrowseNextRequestView, BrowseResult};
 use ua_session::{Points, point_serial};
@@ -80,15 +79,13 @@ impl<'a> Pages<'a> for NextPages {
 
     fn page(
         &self,
-        alloc: Global,
-        space: &Space,
-        _history: &History,
+        shown: &Shown<'_>,
         points: &mut Points,
         point: ByteStringView<'a>,
         body: &mut MessageBody,
     ) -> Result<(), Halt> {
-        let page = go_on(alloc, space, points, self.is_release, &point);
-        tell(alloc, page, body)
+        let page = go_on(shown.alloc, shown.space, points, self.is_release, &point);
+        tell(shown.alloc, page, body)
     }
 
     ghost rises = { λ pages space history. go_on_rises space pages.is_release };

@@ -11,7 +11,7 @@ use server_messages::{Served, Setting};
 use std::alloc::{AllocError, Global};
 use ua_messages::{MessageBody, ResponseHeader, body, fault, type_ids};
 use ua_subscription_messages::{CreateSubscriptionRequest, CreateSubscriptionResponse};
-use ua_subscriptions::{Created, Settings};
+use ua_subscriptions::{Created, Requester, Settings};
 use ua_types::{Refusal, Status};
 
 // What a client is told of its new subscription, or why there is none.
@@ -65,10 +65,12 @@ impl<'a> SessionService<'a> for CreateSubscription {
             priority: request.priority,
         };
         let enabled = request.publishing_enabled;
+        let requester = Requester {
+            session,
+            clock: setting.clock,
+        };
         let items = &mut services.items;
-        let answered = services
-            .subs
-            .create(items, setting.clock, session, settings, enabled)?;
+        let answered = services.subs.create(items, requester, settings, enabled)?;
         let (answer, others) = apart(alloc, answered);
         let body = answer_body(alloc, setting, caller, answer)?;
         Ok(reply_first(alloc, caller, body, others)?)

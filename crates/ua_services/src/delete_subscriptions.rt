@@ -11,6 +11,7 @@ use crate::sub_serving::{apart, reply_first};
 use server_messages::{Served, Setting};
 use ua_messages::type_ids;
 use ua_subscription_messages::DeleteSubscriptionsRequestView;
+use ua_subscriptions::Requester;
 use ua_types::Refusal;
 
 /// Deletes subscriptions of the session with their items, one after the other. Where the session has none left, its
@@ -34,10 +35,12 @@ impl<'a> SessionService<'a> for DeleteSubscriptions {
     ) -> Result<Served, Refusal> {
         let alloc = services.allocator();
         let numbers = operations(&setting.config, request.subscription_ids)?;
+        let requester = Requester {
+            session,
+            clock: setting.clock,
+        };
         let items = &mut services.items;
-        let answered = services
-            .subs
-            .delete(items, setting.clock, session, numbers)?;
+        let answered = services.subs.delete(items, requester, numbers)?;
         let (statuses, others) = apart(alloc, answered);
         let type_id = type_ids::DELETE_SUBSCRIPTIONS_RESPONSE;
         let body = statuses_body(alloc, type_id, setting, caller, statuses.as_slice())?;

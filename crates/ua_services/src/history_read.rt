@@ -13,20 +13,18 @@ ghost use Rattle.ua_services.specs.RisingSerials.{node_read_rises};
 use crate::caller::Caller;
 use crate::history_results::{tell, tell_release};
 use crate::operations::operations;
-use crate::paging::{Pages, serve_pages};
+use crate::paging::{Pages, Shown, serve_pages};
 use crate::services::Services;
 use crate::session_service::SessionService;
 use server_messages::{Halt, Served, Setting};
-use std::alloc::Global;
 use ua_browse::page_size;
-use ua_history::{History, RawRange, read_raw, release};
+use ua_history::{RawRange, read_raw, release};
 use ua_messages::{MessageBody, StructureFault, TimestampsToReturn, structure_view, type_ids};
 use ua_read_write::Timestamps;
 use ua_service_messages::{
     HistoryReadRequestView, HistoryReadResult, HistoryReadValueIdView, ReadRawModifiedDetails,
 };
 use ua_session::Points;
-use ua_space::Space;
 use ua_types::{Config, Moment, Refusal, Status};
 use ua_views::ExtensionObjectView;
 
@@ -98,16 +96,19 @@ fn judged(config: &Config, object: &ExtensionObjectView<'_>) -> Result<RawRange,
 
 // Writes a page of a node's history.
 fn tell_page(
-    alloc: Global,
-    history: &History,
-    space: &Space,
+    shown: &Shown<'_>,
     points: &mut Points,
     wanted: Wanted,
     asked: &HistoryReadValueIdView<'_>,
     body: &mut MessageBody,
 ) -> Result<(), Halt>
-    ensures { DoesOne history_read_result_encoding result body.old body.new points.old points.new (told_as (history_result_of wanted.timestamps) (read_raw_of history.now space.now.nodes wanted.range points.old asked.now)) }
+    ensures { DoesOne history_read_result_encoding result body.old body.new points.old points.new (told_as (history_result_of wanted.timestamps) (read_raw_of shown.now.history.now shown.now.space.now.nodes wanted.range points.old asked.now)) }
 {
+    let Shown {
+        alloc,
+        space,
+        history,
+    } = *shown;
     let page = read_raw(alloc, history, space, points, wanted.range, asked);
     tell(alloc, wanted.timestamps, page, body)
 }
@@ -129,9 +130,7 @@ impl<'a> Pages<'a> for Wanted {
 
     fn page(
         &self,
-        alloc: Global,
-        space: &Space,
-        history: &History,
+        shown: &Shown<'_>,
         points: &mut Points,
         asked: HistoryReadValueIdView<'a>,
         body: &mut MessageBody,
@@ -140,7 +139,7 @@ impl<'a> Pages<'a> for Wanted {
             let released = release(points, &asked.continuation_point);
             return Ok(tell_release(released, body)?);
         }
-        tell_page(alloc, history, space, points, *self, &asked, body)
+        tell_page(shown, points, *self, &asked, body)
     }
 
     ghost rises = { λ wanted space history. node_read_rises history space.nodes wanted };

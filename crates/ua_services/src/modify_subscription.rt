@@ -13,7 +13,7 @@ use ua_messages::{MessageBody, ResponseHeader, body, fault, type_ids};
 use ua_subscription_messages::{
     ModifySubscriptionRequest, ModifySubscriptionResponse, SubscriptionId,
 };
-use ua_subscriptions::{Revised, Settings};
+use ua_subscriptions::{Requester, Revised, Settings};
 use ua_types::{Refusal, Status};
 
 // What a client is told of its subscription, or why nothing changed.
@@ -65,10 +65,14 @@ impl<'a> SessionService<'a> for ModifySubscription {
             priority: request.priority,
         };
         let subscription = SubscriptionId(request.subscription_id);
+        let requester = Requester {
+            session,
+            clock: setting.clock,
+        };
         let items = &mut services.items;
         let answered = services
             .subs
-            .modify(items, setting.clock, session, subscription, settings)?;
+            .modify(items, requester, subscription, settings)?;
         let (answer, others) = apart(alloc, answered);
         let body = answer_body(alloc, setting, caller, answer)?;
         Ok(reply_first(alloc, caller, body, others)?)

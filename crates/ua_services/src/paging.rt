@@ -24,6 +24,14 @@ use ua_space::Space;
 use ua_types::{NodeId, Refusal};
 use ua_views::{ArrayView, View};
 
+/// What pages show, and from where they take memory.
+#[derive(Clone, Copy)]
+pub(crate) struct Shown<'a> {
+    pub(crate) alloc: Global,
+    pub(crate) space: &'a Space,
+    pub(crate) history: &'a History,
+}
+
 /// How a service answers each thing that it is asked for, page by page.
 ///
 /// Implementors write one result at a time, straight into the response. [`serve_pages`] asks for all, with the
@@ -48,14 +56,12 @@ pub(crate) trait Pages<'a> {
     /// written.
     fn page(
         &self,
-        alloc: Global,
-        space: &Space,
-        history: &History,
+        shown: &Shown<'_>,
         points: &mut Points,
         asked: Self::Asked,
         body: &mut MessageBody,
     ) -> Result<(), Halt>
-        ensures { DoesOne Self.Answer.encoding result body.old body.new points.old points.new (meaning self.now space.now history.now points.old asked) };
+        ensures { DoesOne Self.Answer.encoding result body.old body.new points.old points.new (meaning self.now shown.now.space.now shown.now.history.now points.old asked) };
 
     /// No serial is given twice.
     ghost rises: { (wanted : Self) (space : SpaceState) (history : HistoryState) → Rises (meaning wanted space history) };
@@ -63,18 +69,16 @@ pub(crate) trait Pages<'a> {
 
 // Writes the result of each, one behind the other.
 fn all_pages<'a, P: Pages<'a>>(
-    alloc: Global,
-    space: &Space,
-    history: &History,
+    shown: &Shown<'_>,
     points: &mut Points,
     wanted: &P,
     list: ArrayView<'a, P::Asked>,
     body: &mut MessageBody,
 ) -> Result<(), Halt>
-    ensures { DoesAll P.Answer.encoding result body.old body.new points.old points.new (all_done (P.meaning wanted.now space.now history.now) points.old (or_none list.entry)) }
+    ensures { DoesAll P.Answer.encoding result body.old body.new points.old points.new (all_done (P.meaning wanted.now shown.now.space.now shown.now.history.now) points.old (or_none list.entry)) }
 {
     for asked in list {
-        match wanted.page(alloc, space, history, points, asked, body) {
+        match wanted.page(shown, points, asked, body) {
             Ok(()) => {}
             Err(halt) => return Err(halt),
         }
@@ -121,11 +125,15 @@ pub(crate) fn serve_pages<'a, P: Pages<'a>>(
 {
     let alloc = services.allocator();
     services.sessions.open_points(alloc, session)?;
-    let (space, history) = (&services.space, &services.history);
+    let shown = Shown {
+        alloc,
+        space: &services.space,
+        history: &services.history,
+    };
     let Some(points) = services.sessions.points_mut(session) else {
         unreachable!();
     };
     let mut body = head(alloc, setting, caller, wanted.response(), list.len() as u32)?;
-    all_pages(alloc, space, history, points, wanted, list, &mut body)?;
+    all_pages(&shown, points, wanted, list, &mut body)?;
     Ok(answer(alloc, caller, body)?)
 }

@@ -13,7 +13,7 @@ use crate::session_service::SessionService;
 use crate::sub_serving::served_alone;
 use server_messages::{Served, Setting};
 use ua_subscription_messages::{PublishRequestView, SubscriptionAcknowledgement};
-use ua_subscriptions::PublishCall;
+use ua_subscriptions::{PublishCall, Requester};
 use ua_types::{Listed, Refusal, Status};
 use ua_views::ArrayView;
 
@@ -32,11 +32,14 @@ fn taken(
         origin: caller.origin,
         results: Listed::new(alloc),
     };
+    let requester = Requester {
+        session,
+        clock: setting.clock,
+    };
     let items = &mut services.items;
-    let clock = setting.clock;
     let answered = services
         .subs
-        .publish(items, clock, session, publish, acknowledgements)?;
+        .publish(items, requester, publish, acknowledgements)?;
     Ok(served_alone(alloc, answered))
 }
 

@@ -12,6 +12,7 @@ use server_messages::{Served, Setting};
 use std::alloc::{AllocError, Global};
 use ua_messages::{MessageBody, ResponseHeader, fault};
 use ua_subscription_messages::{RepublishRequest, SubscriptionId, republish_body};
+use ua_subscriptions::Requester;
 use ua_types::{Refusal, Status};
 
 // The response with a message's bytes as they were made, or why there is none.
@@ -53,10 +54,14 @@ impl<'a> SessionService<'a> for Republish {
         let alloc = services.allocator();
         let subscription = SubscriptionId(request.subscription_id);
         let wanted = request.retransmit_sequence_number;
+        let requester = Requester {
+            session,
+            clock: setting.clock,
+        };
         let items = &mut services.items;
         let answered = services
             .subs
-            .republish(items, setting.clock, session, subscription, wanted)?;
+            .republish(items, requester, subscription, wanted)?;
         let (answer, others) = apart(alloc, answered);
         let body = answer_body(alloc, setting, caller, answer)?;
         Ok(reply_first(alloc, caller, body, others)?)

@@ -11,6 +11,7 @@ use crate::sub_serving::{apart, reply_first};
 use server_messages::{Served, Setting};
 use ua_messages::type_ids;
 use ua_subscription_messages::SetPublishingModeRequestView;
+use ua_subscriptions::Requester;
 use ua_types::Refusal;
 
 /// Switches the notifications of subscriptions of the session on or off, one after the other.
@@ -34,10 +35,12 @@ impl<'a> SessionService<'a> for SetPublishingMode {
         let alloc = services.allocator();
         let enabled = request.publishing_enabled;
         let numbers = operations(&setting.config, request.subscription_ids)?;
+        let requester = Requester {
+            session,
+            clock: setting.clock,
+        };
         let items = &mut services.items;
-        let answered = services
-            .subs
-            .set_mode(items, setting.clock, session, numbers, enabled)?;
+        let answered = services.subs.set_mode(items, requester, numbers, enabled)?;
         let (statuses, others) = apart(alloc, answered);
         let type_id = type_ids::SET_PUBLISHING_MODE_RESPONSE;
         let body = statuses_body(alloc, type_id, setting, caller, statuses.as_slice())?;

@@ -15,8 +15,8 @@
 //! subscription has to send. What is answered to Publish requests comes with each:
 //!
 //! ```text
-//! let made = subscriptions.create(&mut items, clock, session, settings, true)?;
-//! let told = subscriptions.publish(&mut items, clock, session, request, acknowledgements)?;
+//! let made = subscriptions.create(&mut items, requester, settings, true)?;
+//! let told = subscriptions.publish(&mut items, requester, request, acknowledgements)?;
 //! let told = subscriptions.timers(&mut items, clock)?;        // those that are due, the best first
 //! send(told.replies);                                                // each by the connection that its request came by
 //! let before = subscriptions.vars(subscription, &items);
@@ -51,6 +51,7 @@ mod publish_call;
 mod publishing;
 mod queue;
 mod ranks;
+mod requester;
 mod round;
 mod session_part;
 mod settings;
@@ -71,6 +72,7 @@ pub use number_set::NumberSet;
 pub use publish_call::PublishCall;
 pub use queue::Queue;
 pub use ranks::{Rank, Ranks};
+pub use requester::Requester;
 pub use round::Round;
 pub use session_part::{SessionSubscriptions, TimeoutNote};
 pub use settings::{

@@ -17,6 +17,7 @@ use crate::answered::Answered;
 use crate::call::Call;
 use crate::making::Revised;
 use crate::publish_call::PublishCall;
+use crate::requester::Requester;
 use crate::round::Round;
 use crate::settings::{Bounds, Settings};
 use crate::table::LiveSubscriptions;
@@ -146,17 +147,16 @@ impl Subscriptions {
     fn refuse(
         &mut self,
         items: &mut Items,
-        clock: Moment,
-        session: u32,
+        requester: Requester,
         settings: Settings,
         enabled: bool,
     ) -> Result<Answered<Result<Created, Status>>, Halt>
         requires { self.old.halted ≡ None }
-        ensures { Serves result self.old self.new items.new (refused session settings enabled self.old (stage_of self.old items.old clock)) }
+        ensures { Serves result self.old self.new items.new (refused requester.session settings enabled self.old (stage_of self.old items.old requester.clock)) }
     {
-        let mut round = self.round(items, clock);
+        let mut round = self.round(items, requester.clock);
         let table = &self.table;
-        match table.refuse(&mut round, items, session, settings, enabled) {
+        match table.refuse(&mut round, items, requester.session, settings, enabled) {
             Ok(()) => self.settle(round, Ok(Err(Status::BAD_TOO_MANY_SUBSCRIPTIONS))),
             Err(halt) => self.settle(round, Err(halt)),
         }
@@ -167,21 +167,20 @@ impl Subscriptions {
     fn add(
         &mut self,
         items: &mut Items,
-        clock: Moment,
-        session: u32,
+        requester: Requester,
         settings: Settings,
         enabled: bool,
     ) -> Result<Answered<Result<Created, Status>>, Halt>
         requires going { self.old.halted ≡ None }
         requires room { self.old.made < 2 ^ 32 - 1 }
-        ensures { Serves result self.old self.new items.new (created_one session settings enabled self.old (stage_of self.old items.old clock)) }
+        ensures { Serves result self.old self.new items.new (created_one requester.session settings enabled self.old (stage_of self.old items.old requester.clock)) }
     {
-        let mut round = self.round(items, clock);
+        let mut round = self.round(items, requester.clock);
         let number = self.made + 1;
         self.made = number;
         let table = &mut self.table;
         let own = SubscriptionId(number);
-        match table.add(&mut round, items, session, own, settings, enabled) {
+        match table.add(&mut round, items, requester.session, own, settings, enabled) {
             Ok(()) => {
                 let revised = Revised::new(settings);
                 self.settle(round, Ok(Ok(Created { number, revised })))
@@ -198,20 +197,19 @@ impl Subscriptions {
     pub fn create(
         &mut self,
         items: &mut Items,
-        clock: Moment,
-        session: u32,
+        requester: Requester,
         settings: Settings,
         enabled: bool,
     ) -> Result<Answered<Result<Created, Status>>, Halt>
-        ensures { Serves result self.old self.new items.new (created session settings enabled self.old items.old clock) }
+        ensures { Serves result self.old self.new items.new (created requester.session settings enabled self.old items.old requester.clock) }
     {
         if let Some(halt) = self.halted {
             return Err(halt);
         }
-        if self.is_full(session) {
-            self.refuse(items, clock, session, settings, enabled)
+        if self.is_full(requester.session) {
+            self.refuse(items, requester, settings, enabled)
         } else {
-            self.add(items, clock, session, settings, enabled)
+            self.add(items, requester, settings, enabled)
         }
     }
 
@@ -222,21 +220,24 @@ impl Subscriptions {
     pub fn modify(
         &mut self,
         items: &mut Items,
-        clock: Moment,
-        session: u32,
+        requester: Requester,
         subscription: SubscriptionId,
         settings: Settings,
     ) -> Result<Answered<Result<Revised, Status>>, Halt>
-        ensures serves { Serves result self.old self.new items.new (said self.old (modified session subscription settings (stage_of self.old items.old clock))) }
-        ensures memory { self.old.halted ≡ None → is_own_spec self.old.table session subscription ≡ false → IsOk result }
+        ensures serves { Serves result self.old self.new items.new (said self.old (modified requester.session subscription settings (stage_of self.old items.old requester.clock))) }
+        ensures memory { self.old.halted ≡ None → is_own_spec self.old.table requester.session subscription ≡ false → IsOk result }
     {
         if let Some(halt) = self.halted {
             return Err(halt);
         }
-        let mut round = self.round(items, clock);
-        let answer = self
-            .table
-            .modify(&mut round, items, session, subscription, settings);
+        let mut round = self.round(items, requester.clock);
+        let answer = self.table.modify(
+            &mut round,
+            items,
+            requester.session,
+            subscription,
+            settings,
+        );
         self.settle(round, answer)
     }
 
@@ -247,21 +248,20 @@ impl Subscriptions {
     pub fn set_mode(
         &mut self,
         items: &mut Items,
-        clock: Moment,
-        session: u32,
+        requester: Requester,
         numbers: ArrayView<'_, u32>,
         enabled: bool,
     ) -> Result<Answered<Listed<Status>>, Halt>
-        ensures { Serves result self.old self.new items.new (said self.old (named_all session (SetMode enabled) (stage_of self.old items.old clock) (or_none numbers.entry))) }
+        ensures { Serves result self.old self.new items.new (said self.old (named_all requester.session (SetMode enabled) (stage_of self.old items.old requester.clock) (or_none numbers.entry))) }
     {
         if let Some(halt) = self.halted {
             return Err(halt);
         }
-        let mut round = self.round(items, clock);
+        let mut round = self.round(items, requester.clock);
         let call = Call::SetMode { enabled };
         let answer = self
             .table
-            .fire_named(&mut round, items, session, numbers, call);
+            .fire_named(&mut round, items, requester.session, numbers, call);
         self.settle(round, answer)
     }
 
@@ -273,17 +273,18 @@ impl Subscriptions {
     pub fn delete(
         &mut self,
         items: &mut Items,
-        clock: Moment,
-        session: u32,
+        requester: Requester,
         numbers: ArrayView<'_, u32>,
     ) -> Result<Answered<Listed<Status>>, Halt>
-        ensures { Serves result self.old self.new items.new (said self.old (deleted session (stage_of self.old items.old clock) (or_none numbers.entry))) }
+        ensures { Serves result self.old self.new items.new (said self.old (deleted requester.session (stage_of self.old items.old requester.clock) (or_none numbers.entry))) }
     {
         if let Some(halt) = self.halted {
             return Err(halt);
         }
-        let mut round = self.round(items, clock);
-        let answer = self.table.delete(&mut round, items, session, numbers);
+        let mut round = self.round(items, requester.clock);
+        let answer = self
+            .table
+            .delete(&mut round, items, requester.session, numbers);
         self.settle(round, answer)
     }
 
@@ -296,20 +297,23 @@ impl Subscriptions {
     pub fn publish(
         &mut self,
         items: &mut Items,
-        clock: Moment,
-        session: u32,
+        requester: Requester,
         call: PublishCall,
         acknowledgements: ArrayView<'_, SubscriptionAcknowledgement>,
     ) -> Result<Answered<()>, Halt>
-        ensures { Serves result self.old self.new items.new (without_answer self.old (published session call (or_none acknowledgements.entry) (stage_of self.old items.old clock))) }
+        ensures { Serves result self.old self.new items.new (without_answer self.old (published requester.session call (or_none acknowledgements.entry) (stage_of self.old items.old requester.clock))) }
     {
         if let Some(halt) = self.halted {
             return Err(halt);
         }
-        let mut round = self.round(items, clock);
-        let answer = self
-            .table
-            .publish(&mut round, items, session, call, acknowledgements);
+        let mut round = self.round(items, requester.clock);
+        let answer = self.table.publish(
+            &mut round,
+            items,
+            requester.session,
+            call,
+            acknowledgements,
+        );
         self.settle(round, answer)
     }
 
@@ -321,21 +325,20 @@ impl Subscriptions {
     pub fn republish(
         &mut self,
         items: &mut Items,
-        clock: Moment,
-        session: u32,
+        requester: Requester,
         subscription: SubscriptionId,
         wanted: u32,
     ) -> Result<Answered<Result<Bytes, Status>>, Halt>
-        ensures serves { Serves result self.old self.new items.new (said self.old (republished session subscription wanted (stage_of self.old items.old clock))) }
-        ensures memory { self.old.halted ≡ None → is_own_spec self.old.table session subscription ≡ false → IsOk result }
+        ensures serves { Serves result self.old self.new items.new (said self.old (republished requester.session subscription wanted (stage_of self.old items.old requester.clock))) }
+        ensures memory { self.old.halted ≡ None → is_own_spec self.old.table requester.session subscription ≡ false → IsOk result }
     {
         if let Some(halt) = self.halted {
             return Err(halt);
         }
-        let mut round = self.round(items, clock);
+        let mut round = self.round(items, requester.clock);
         let answer = self
             .table
-            .republish(&mut round, items, session, subscription, wanted);
+            .republish(&mut round, items, requester.session, subscription, wanted);
         self.settle(round, answer)
     }
 

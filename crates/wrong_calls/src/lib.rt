@@ -23,7 +23,7 @@ use ua_monitored_items::Items;
 use ua_session::Points;
 use ua_space::Space;
 use ua_subscription_messages::{SubscriptionAcknowledgement, SubscriptionId};
-use ua_subscriptions::{Answered, PublishCall, Subscriptions};
+use ua_subscriptions::{Answered, PublishCall, Requester, Subscriptions};
 use ua_types::{Moment, Refusal, Status};
 use ua_views::ArrayView;
 
@@ -57,28 +57,26 @@ pub fn values_wait(items: &Items, subscription: SubscriptionId) -> bool
 pub fn publish_taken(
     subscriptions: &mut Subscriptions,
     items: &mut Items,
-    clock: Moment,
-    session: u32,
+    requester: Requester,
     call: PublishCall,
     acknowledgements: ArrayView<'_, SubscriptionAcknowledgement>,
 ) -> Result<Answered<()>, Halt>
-    ensures { Serves result subscriptions.old subscriptions.new items.new (without_answer subscriptions.old (published session call (or_none acknowledgements.entry) (stage_of subscriptions.old items.old clock))) }
+    ensures { Serves result subscriptions.old subscriptions.new items.new (without_answer subscriptions.old (published requester.session call (or_none acknowledgements.entry) (stage_of subscriptions.old items.old requester.clock))) }
 {
-    subscriptions.publish(items, clock, session, call, acknowledgements)
+    subscriptions.publish(items, requester, call, acknowledgements)
 }
 
 /// As [`Subscriptions::republish`].
 pub fn message_republished(
     subscriptions: &mut Subscriptions,
     items: &mut Items,
-    clock: Moment,
-    session: u32,
+    requester: Requester,
     subscription: SubscriptionId,
     wanted: u32,
 ) -> Result<Answered<Result<Bytes, Status>>, Halt>
-    ensures { Serves result subscriptions.old subscriptions.new items.new (said subscriptions.old (republished session subscription wanted (stage_of subscriptions.old items.old clock))) }
+    ensures { Serves result subscriptions.old subscriptions.new items.new (said subscriptions.old (republished requester.session subscription wanted (stage_of subscriptions.old items.old requester.clock))) }
 {
-    subscriptions.republish(items, clock, session, subscription, wanted)
+    subscriptions.republish(items, requester, subscription, wanted)
 }
 
 /// As [`Subscriptions::timers`].

@@ -12,7 +12,7 @@ use std::{fs, io};
 use ua_binary::Cursor;
 use ua_monitored_items::Items;
 use ua_subscription_messages::{SubscriptionAcknowledgement, SubscriptionId};
-use ua_subscriptions::{Answered, PublishCall, Settings, Subscriptions};
+use ua_subscriptions::{Answered, PublishCall, Requester, Settings, Subscriptions};
 use ua_types::{Config, Listed, Moment};
 use ua_views::{ArrayView, View};
 
@@ -57,6 +57,12 @@ const SETTINGS: Settings = Settings {
     priority: 0,
 };
 
+// The first session, at once.
+const REQUESTER: Requester = Requester {
+    session: 1,
+    clock: Moment(0),
+};
+
 // The bytes of a list that is null.
 const NULL_LIST: &[u8] = &[0xff; 4];
 
@@ -76,22 +82,21 @@ fn publish(
         results: Listed::new(alloc),
     };
     match ArrayView::<SubscriptionAcknowledgement>::view(&mut Cursor::new(NULL_LIST)) {
-        Ok(none) => subscriptions.publish(items, Moment(0), 1, call, none),
+        Ok(none) => subscriptions.publish(items, REQUESTER, call, none),
         Err(_) => Err(Halt::Exhausted),
     }
 }
 
 // Whether each call is answered, or want of memory from one on.
 fn go_on(alloc: Global, subscriptions: &mut Subscriptions, items: &mut Items) -> bool {
-    let now = Moment(0);
     let mut halted = false;
     let mut so = true;
     for id in 1..4 {
-        let created = subscriptions.create(items, now, 1, SETTINGS, true);
+        let created = subscriptions.create(items, REQUESTER, SETTINGS, true);
         so = goes_on(&mut halted, created) && so;
         let published = publish(alloc, subscriptions, items, id);
         so = goes_on(&mut halted, published) && so;
-        let modified = subscriptions.modify(items, now, 1, SubscriptionId(1), SETTINGS);
+        let modified = subscriptions.modify(items, REQUESTER, SubscriptionId(1), SETTINGS);
         so = goes_on(&mut halted, modified) && so;
     }
     so
