@@ -1,5 +1,5 @@
 -- The queue of a disabled item is empty, whatever is done.
-use Rattle.std.proofs.Common.{◌≡◌, ℕ, Bool, true, false, cond, List, [], ◌∷◌, ◌-◌, length, take, drop, Option, Some, None, refl, sym, ap, ◌∙◌}
+use Rattle.std.proofs.Common.{◌≡◌, ℕ, Bool, true, false, cond, List, [], ◌∷◌, ◌-◌, length, take, drop, Option, Some, refl, sym, ap, ◌∙◌}
 use Rattle.std.proofs.Math.Seq.{take-nil, drop-nil}
 use Rattle.std.proofs.lemmas.Bool.{false≢true}
 use Rattle.std.specs.BTreeMap.{insert_entry, is_at}
@@ -9,19 +9,17 @@ use Rattle.std.specs.Prelude.{◌==◌, ◌&&◌, IfSome, fold, nat_le, nat_lt}
 use Rattle.std.specs.declared.cmp.Ordering.{Ordering}
 use Rattle.std.specs.declared.cmp.Ordering.TheVariants.{Less, Equal, Greater}
 use Rattle.ua_types.specs.declared.data_value.DataValue.{DataValue}
-use Rattle.ua_read_write.specs.declared.timestamps.Timestamps.{Timestamps}
-use Rattle.ua_subscription_messages.specs.declared.monitoring_parameters.MonitoringParameters.{MonitoringParameters}
 use Rattle.ua_item_queue.specs.ItemQueue.{changed, queue_after}
 use Rattle.ua_item_queue.specs.ItemQueue.QueueChange.{FrontCleared, BackCleared}
 use Rattle.ua_item_queue.specs.ItemQueue.QueueMove.{Resize}
 use Rattle.ua_item_queue.specs.declared.entry.Entry.{Entry}
-use Rattle.ua_monitored_items.specs.Item.{is_enabled, is_sampling, is_change_since, takes, queued, seen, with_mode, disabled, gave, released_in}
+use Rattle.ua_monitored_items.specs.Item.{is_enabled, is_sampling, is_change_since, queued, seen, with_mode, disabled, gave, released_in}
 use Rattle.ua_monitored_items.specs.ItemTables.{NumberedItems, item_at, DisabledIsEmpty, DisabledAreEmpty}
-use Rattle.ua_monitored_items.specs.Modifying.{modified_with}
+use Rattle.ua_monitored_items.specs.Editing.{modified_with}
 use Rattle.ua_monitored_items.specs.Preparing.{enabled_from, moded_from}
 use Rattle.ua_monitored_items.specs.declared.item.Item.{Item}
 use Rattle.ua_monitored_items.specs.declared.kinds.Mode.{Mode}
-use Rattle.ua_monitored_items.specs.declared.preparing.Modification.{Modification}
+use Rattle.ua_monitored_items.specs.declared.edit.Modification.{Modification}
 
 -- ---- items under their numbers
 
@@ -87,8 +85,8 @@ nothing_cut q size oldest none = by (nat_le (length q) size) oldest
     by false true = ap (drop (length q - size)) none ∙ drop-nil (length q - size)
     by false false = ap (take size) none ∙ take-nil size
 
-pub empty_modified : (timestamps : Timestamps) (modification : Modification) (parameters : MonitoringParameters) → KeepsEmpty (modified_with timestamps modification parameters)
-empty_modified timestamps modification parameters item none off = nothing_cut item.queue.entries modification.size parameters.discard_oldest (none off)
+pub empty_modified : (modification : Modification) → KeepsEmpty (modified_with modification)
+empty_modified modification item none off = nothing_cut item.queue.entries modification.size modification.discard_oldest (none off)
 
 pub empty_gave : (n : ℕ) → KeepsEmpty (gave n)
 empty_gave n item none off = ap (drop n) (none off) ∙ drop-nil n

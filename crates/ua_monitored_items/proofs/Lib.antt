@@ -4,6 +4,7 @@ pub mod MadeItems
 pub mod Tables
 pub mod Serving
 pub mod Releasing
+pub mod Editing
 pub mod Once
 pub mod Linking
 pub mod Giving

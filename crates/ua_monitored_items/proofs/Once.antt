@@ -1,6 +1,6 @@
 -- Items are released once, however many others release them: neither the order nor the number of times makes a difference.
 use Rattle.std.proofs.Common.{◌≡◌, ℕ, Bool, true, false, cond, List, [], ◌∷◌, Option, Some, None, refl, ap, sym, ◌∙◌}
-use Rattle.std.specs.Prelude.{◌==◌, ◌&&◌, fold, length, nat_lt}
+use Rattle.std.specs.Prelude.{◌==◌, ◌&&◌, length, nat_lt}
 use Rattle.std.specs.BTreeMap.{is_at}
 use Rattle.std.specs.BTreeSet.{insert_key}
 use Rattle.std.specs.Ordering.{nat_cmp, is_eq, match_ordering, ordering_then}

@@ -21,8 +21,8 @@ use Rattle.ua_subscription_messages.specs.declared.monitoring_parameters.Monitor
 use Rattle.ua_monitored_items.specs.Item.{is_enabled, takes, queued, seen, with_mode, disabled, modified, gave, waiting_in}
 use Rattle.ua_monitored_items.specs.Items.{Visit, visited, sampled_items, Taking, nat_least, taken_from, with_taken, without_all, first_number, taken_of, nothing_taken}
 use Rattle.ua_monitored_items.specs.Preparing.{enabled_from, moded_from}
-use Rattle.ua_monitored_items.specs.declared.preparing.Modification.{Modification}
-use Rattle.ua_monitored_items.specs.Modifying.{modified_with}
+use Rattle.ua_monitored_items.specs.declared.edit.Modification.{Modification}
+use Rattle.ua_monitored_items.specs.Editing.{modified_with}
 use Rattle.ua_monitored_items.specs.Taking.{TakenSome}
 use Rattle.ua_monitored_items.specs.declared.item.Item.{Item}
 use Rattle.ua_monitored_items.specs.declared.kinds.Mode.{Mode}
@@ -335,8 +335,8 @@ module _ (item : Item) (is_value : item.attribute_id ≡ 13) where
 pub there_modified : (longest : ℕ) (timestamps : Timestamps) (trigger : Trigger) (parameters : MonitoringParameters) (item : Item) → IsThere item (modified longest timestamps trigger parameters item)
 there_modified longest timestamps trigger parameters item = record { subscription = refl; node = refl; attribute = refl }
 
-pub there_modified_with : (timestamps : Timestamps) (modification : Modification) (parameters : MonitoringParameters) (item : Item) → IsThere item (modified_with timestamps modification parameters item)
-there_modified_with timestamps modification parameters item = record { subscription = refl; node = refl; attribute = refl }
+pub there_modified_with : (modification : Modification) (item : Item) → IsThere item (modified_with modification item)
+there_modified_with modification item = record { subscription = refl; node = refl; attribute = refl }
 
 there_queued : (v : DataValue) (item : Item) → IsThere item (queued v item)
 there_queued v item = record { subscription = refl; node = refl; attribute = refl }

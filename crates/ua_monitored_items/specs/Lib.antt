@@ -12,4 +12,4 @@ pub mod Causes
 pub mod Taking
 pub mod Undoing
 pub mod Preparing
-pub mod Modifying
+pub mod Editing

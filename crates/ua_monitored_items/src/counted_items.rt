@@ -1,33 +1,29 @@
 //! Items under their numbers, and how many of each subscription's items have a value to send.
 
-ghost use Rattle.std.specs.Prelude.{◌≡◌, [], length, None, true, OnOk, OnErr, IfOk, IfErr, IfSome, IfNone};
+ghost use Rattle.std.specs.Prelude.{◌≡◌, [], length, None, true, OnOk, OnErr, IfOk, IfErr, IfNone};
 ghost use Rattle.std.specs.BTreeMap.{is_at, insert_entry};
 ghost use Rattle.std.specs.Map.{remove_entry};
 ghost use Rattle.std.specs.Option.{option_copied};
 ghost use Rattle.std.specs.Ordering.{nat_cmp};
 ghost use Rattle.ua_monitored_items.specs.Counts.{recount_by};
-ghost use Rattle.ua_monitored_items.specs.Item.{seen, gave, released_in, with_links};
-ghost use Rattle.ua_monitored_items.specs.ItemTables.{item_at, numbers_of, with_item, AreRising, DisabledIsEmpty};
+ghost use Rattle.ua_monitored_items.specs.Editing.{edited, MayEdit};
+ghost use Rattle.ua_monitored_items.specs.Item.{seen, gave};
+ghost use Rattle.ua_monitored_items.specs.ItemTables.{item_at, numbers_of, with_item, AreRising};
 ghost use Rattle.ua_monitored_items.specs.Items.{any_waits, nat_least, nothing_taken, taken_of, visit_takes, with_taken};
-ghost use Rattle.ua_monitored_items.specs.Modifying.{modified_with};
-ghost use Rattle.ua_monitored_items.specs.Preparing.{moded_from};
-ghost use Rattle.ua_monitored_items.specs.Releases.{visit_releases, with_release, with_releases};
+ghost use Rattle.ua_monitored_items.specs.Releases.{visit_releases, with_releases};
 ghost use Rattle.ua_monitored_items.specs.Taking.{TakenSome, waiting_at};
 ghost use Rattle.ua_subscription_messages.specs.DataChangeMessages.{with_notes};
 
+use crate::edit::Edit;
 use crate::item::Item;
-use crate::kinds::Mode;
-use crate::links::Links;
-use crate::preparing::Modification;
-use crate::releases::{Release, Releases};
+use crate::releases::Releases;
 use crate::taking::give_all;
 use crate::tally::{Recount, Tally, count, hold};
 use collections::Slots;
 use std::alloc::{AllocError, Global};
 use std::collections::{BTreeMap, BTreeSet};
 use std::marker::Model;
-use ua_read_write::Timestamps;
-use ua_subscription_messages::{DataChangeMessage, MonitoringParametersView, SubscriptionId};
+use ua_subscription_messages::{DataChangeMessage, SubscriptionId};
 use ua_types::DataValue;
 
 /// Items under their numbers. Contracts see these alone.
@@ -52,67 +48,15 @@ impl Model for CountedItems {
     ghost invariant = { λ t. AreCounts t.counts t.items };
 }
 
-fn modify_at(
-    items: &mut Slots<Item>,
-    number: u32,
-    timestamps: Timestamps,
-    modification: Modification,
-    parameters: &MonitoringParametersView<'_>,
-) -> Option<Recount>
-    ensures items { items.new ≡ with_item number (modified_with timestamps modification parameters.now) items.old }
-    ensures recount { result ≡ recount_by (modified_with timestamps modification parameters.now) (item_at number items.old) }
+// The item with this number is changed, if there is one. Answers whether it had a value to send, and has one now.
+fn edit_at(items: &mut Slots<Item>, number: u32, edit: Edit) -> Option<Recount>
+    requires { MayEdit edit (item_at number items.old) }
+    ensures items { items.new ≡ with_item number (edited edit) items.old }
+    ensures recount { result ≡ recount_by (edited edit) (item_at number items.old) }
 {
     let item = items.get_mut(number as u64)?;
     let had = item.waiting() > 0;
-    item.modify(timestamps, modification, parameters);
-    Some(Recount {
-        subscription: item.subscription,
-        had,
-        has: item.waiting() > 0,
-    })
-}
-
-fn set_mode_at(
-    items: &mut Slots<Item>,
-    number: u32,
-    mode: Mode,
-    first: Option<DataValue>,
-) -> Option<Recount>
-    requires { IfSome (item_at number items.old) DisabledIsEmpty }
-    ensures items { items.new ≡ with_item number (moded_from mode first) items.old }
-    ensures recount { result ≡ recount_by (moded_from mode first) (item_at number items.old) }
-{
-    let item = items.get_mut(number as u64)?;
-    let had = item.waiting() > 0;
-    item.set_mode(mode, first);
-    Some(Recount {
-        subscription: item.subscription,
-        had,
-        has: item.waiting() > 0,
-    })
-}
-
-fn release_at(items: &mut Slots<Item>, release: Release) -> Option<Recount>
-    ensures items { items.new ≡ with_item release.number (released_in release.subscription) items.old }
-    ensures recount { result ≡ recount_by (released_in release.subscription) (item_at release.number items.old) }
-{
-    let item = items.get_mut(release.number as u64)?;
-    let had = item.waiting() > 0;
-    item.release(SubscriptionId(release.subscription));
-    Some(Recount {
-        subscription: item.subscription,
-        had,
-        has: item.waiting() > 0,
-    })
-}
-
-fn set_links_at(items: &mut Slots<Item>, number: u32, links: Links) -> Option<Recount>
-    ensures items { items.new ≡ with_item number (with_links links) items.old }
-    ensures recount { result ≡ recount_by (with_links links) (item_at number items.old) }
-{
-    let item = items.get_mut(number as u64)?;
-    let had = item.waiting() > 0;
-    item.set_links(links);
+    item.edit(edit);
     Some(Recount {
         subscription: item.subscription,
         had,
@@ -239,57 +183,13 @@ impl CountedItems {
         let _ = self.counts.remove(&subscription.0);
     }
 
-    /// The item with this number gets other parameters. Takes no memory.
-    pub fn modify(
-        &mut self,
-        number: u32,
-        timestamps: Timestamps,
-        modification: Modification,
-        parameters: &MonitoringParametersView<'_>,
-    )
-        ensures { self.new ≡ with_item number (modified_with timestamps modification parameters.now) self.old }
+    /// The item with this number is changed, if there is one. Takes no memory.
+    pub fn edit(&mut self, number: u32, edit: Edit)
+        requires { MayEdit edit (item_at number self.old) }
+        ensures { self.new ≡ with_item number (edited edit) self.old }
     {
         let most = self.items.len();
-        let found = modify_at(
-            &mut self.items,
-            number,
-            timestamps,
-            modification,
-            parameters,
-        );
-        if let Some(recount) = found {
-            count(&mut self.counts, recount, most);
-        }
-    }
-
-    /// The item with this number gets a mode, and queues what was sampled for it where that enables it.
-    /// Takes no memory.
-    pub fn set_mode(&mut self, number: u32, mode: Mode, first: Option<DataValue>)
-        requires { IfSome (item_at number self.old) DisabledIsEmpty }
-        ensures { self.new ≡ with_item number (moded_from mode first) self.old }
-    {
-        let most = self.items.len();
-        if let Some(recount) = set_mode_at(&mut self.items, number, mode, first) {
-            count(&mut self.counts, recount, most);
-        }
-    }
-
-    /// The item with this number is released by an item of a subscription that queued a value. Takes no memory.
-    pub fn release(&mut self, release: Release)
-        ensures { self.new ≡ with_release self.old release }
-    {
-        let most = self.items.len();
-        if let Some(recount) = release_at(&mut self.items, release) {
-            count(&mut self.counts, recount, most);
-        }
-    }
-
-    /// The item with this number gets other links. Takes no memory.
-    pub fn set_links(&mut self, number: u32, links: Links)
-        ensures { self.new ≡ with_item number (with_links links) self.old }
-    {
-        let most = self.items.len();
-        if let Some(recount) = set_links_at(&mut self.items, number, links) {
+        if let Some(recount) = edit_at(&mut self.items, number, edit) {
             count(&mut self.counts, recount, most);
         }
     }

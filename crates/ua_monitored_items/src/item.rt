@@ -1,17 +1,17 @@
 //! A monitored item.
 
-ghost use Rattle.std.specs.Prelude.{◌≡◌, ◌≤◌, ◌++◌, [], true, take, OnOk, OnErr, IsOk, IfOk, if◌then◌else◌};
+ghost use Rattle.std.specs.Prelude.{◌≡◌, ◌≤◌, ◌++◌, [], true, take, Some, OnOk, OnErr, IsOk, IfOk, if◌then◌else◌};
 ghost use Rattle.std.specs.Option.{option_copied};
-ghost use Rattle.ua_monitored_items.specs.Item.{is_change_since as is_change_since_spec, takes as takes_spec, queued, seen, reading, revised_size as revised_size_spec, takes_last as takes_last_spec, gave, notes_of, tells as tells_spec, waiting_in, released_in, with_links, time_if, marked_status, note_of};
+ghost use Rattle.ua_monitored_items.specs.Item.{is_change_since as is_change_since_spec, takes as takes_spec, queued, seen, reading, revised_size as revised_size_spec, takes_last as takes_last_spec, gave, notes_of, tells as tells_spec, waiting_in, released_in, time_if, marked_status, note_of};
 ghost use Rattle.ua_monitored_items.specs.ItemTables.{DisabledIsEmpty};
-ghost use Rattle.ua_monitored_items.specs.Modifying.{modified_with};
+ghost use Rattle.ua_monitored_items.specs.Editing.{modified_with, edited, MayEdit};
 ghost use Rattle.ua_monitored_items.specs.Preparing.{moded_from};
 ghost use Rattle.ua_monitored_items.specs.Releases.{releases_of, with_releases};
 ghost use Rattle.ua_subscription_messages.specs.DataChangeMessages.{with_notes};
 
+use crate::edit::{Edit, Modification};
 use crate::kinds::{Mode, Trigger};
 use crate::links::Links;
-use crate::preparing::Modification;
 use crate::releases::Releases;
 use std::alloc::{AllocError, Global};
 use ua_binary::BorrowedDataValue;
@@ -19,8 +19,7 @@ use ua_item_queue::{Entry, ItemQueue};
 use ua_read_write::{Timestamps, sample};
 use ua_space::Space;
 use ua_subscription_messages::{
-    BorrowedNotification, DataChangeMessage, MonitoredItemNotification, MonitoringParametersView,
-    SubscriptionId,
+    BorrowedNotification, DataChangeMessage, MonitoredItemNotification, SubscriptionId,
 };
 use ua_types::{Copyable, DataValue, Moment, NodeId, Status};
 
@@ -225,19 +224,14 @@ impl Item {
     }
 
     // Gets other parameters. Takes no memory.
-    pub(crate) fn modify(
-        &mut self,
-        timestamps: Timestamps,
-        modification: Modification,
-        parameters: &MonitoringParametersView<'_>,
-    )
-        ensures { self.new ≡ modified_with timestamps modification parameters.now self.old }
+    fn modify(&mut self, modification: Modification)
+        ensures { self.new ≡ modified_with modification self.old }
     {
-        let Modification { trigger, size } = modification;
-        self.client_handle = parameters.client_handle;
-        self.timestamps = timestamps;
-        self.trigger = trigger;
-        self.queue.resize(size, parameters.discard_oldest);
+        self.client_handle = modification.client_handle;
+        self.timestamps = modification.timestamps;
+        self.trigger = modification.trigger;
+        self.queue
+            .resize(modification.size, modification.discard_oldest);
     }
 
     // What it queues if it is enabled now.
@@ -253,7 +247,7 @@ impl Item {
     }
 
     // Is released by an item of a subscription that queued a value. Takes no memory.
-    pub(crate) fn release(&mut self, subscription: SubscriptionId)
+    fn release(&mut self, subscription: SubscriptionId)
         ensures { self.new ≡ released_in subscription self.old }
     {
         if self.subscription == subscription.0 && self.mode.is_sampling() && self.queue.len() > 0 {
@@ -261,15 +255,8 @@ impl Item {
         }
     }
 
-    // Gets other links. Takes no memory.
-    pub(crate) fn set_links(&mut self, links: Links)
-        ensures { self.new ≡ with_links links self.old }
-    {
-        self.links = links;
-    }
-
     // Gets a mode, and queues what was sampled for it where that enables it. Takes no memory.
-    pub(crate) fn set_mode(&mut self, mode: Mode, first: Option<DataValue>)
+    fn set_mode(&mut self, mode: Mode, first: Option<DataValue>)
         requires { DisabledIsEmpty self.old }
         ensures { self.new ≡ moded_from mode first self.old }
     {
@@ -285,6 +272,19 @@ impl Item {
             }
         }
         self.mode = mode;
+    }
+
+    // Is changed so. Takes no memory.
+    pub(crate) fn edit(&mut self, edit: Edit)
+        requires { MayEdit edit (Some self.old) }
+        ensures { self.new ≡ edited edit self.old }
+    {
+        match edit {
+            Edit::Modify(modification) => self.modify(modification),
+            Edit::SetMode { mode, first } => self.set_mode(mode, first),
+            Edit::Release(subscription) => self.release(subscription),
+            Edit::SetLinks(links) => self.links = links,
+        }
     }
 
     // Whether its values are sent.

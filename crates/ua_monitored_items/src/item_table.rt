@@ -6,33 +6,27 @@ ghost use Rattle.std.specs.Map.{remove_entry};
 ghost use Rattle.std.specs.Option.{option_copied};
 ghost use Rattle.std.specs.Ordering.{nat_cmp};
 ghost use Rattle.ua_types.specs.NodeIdOrder.{id_cmp};
-ghost use Rattle.ua_monitored_items.specs.Item.{with_links};
+ghost use Rattle.ua_monitored_items.specs.Editing.{edited};
 ghost use Rattle.ua_monitored_items.specs.ItemTables.{TableState, item_at, numbers_of, is_of, is_on, with_item, IsPut, IsTakenOut, IsPutBack, IsKept, IsOwn, DisabledIsEmpty};
 ghost use Rattle.ua_monitored_items.specs.Items.{without_all, any_waits, taken_of, first_number, visits_of, VisitedSome};
-ghost use Rattle.ua_monitored_items.specs.Modifying.{modified_with};
-ghost use Rattle.ua_monitored_items.specs.Preparing.{moded_from};
 ghost use Rattle.ua_monitored_items.specs.Releases.{all_released, shown_one, shown, ShownSome};
 ghost use Rattle.ua_monitored_items.specs.Taking.{TakenSome};
 ghost use Rattle.ua_subscription_messages.specs.DataChangeMessages.{with_notes};
 
 use crate::counted_items::CountedItems;
+use crate::edit::Edit;
 use crate::index::{Index, put_in, take_out};
 use crate::item::Item;
-use crate::kinds::Mode;
-use crate::links::Links;
 use crate::notes::{copy_all, send_all};
-use crate::preparing::Modification;
 use crate::releases::Releases;
 use crate::sampling::{release_all, sample_all, show_node};
 use std::alloc::{AllocError, Global};
 use std::collections::BTreeMap;
 use std::marker::Model;
 use ua_messages::VALUE;
-use ua_read_write::{Change, Timestamps};
+use ua_read_write::Change;
 use ua_space::Space;
-use ua_subscription_messages::{
-    DataChangeMessage, MonitoredItemNotification, MonitoringParametersView, SubscriptionId,
-};
+use ua_subscription_messages::{DataChangeMessage, MonitoredItemNotification, SubscriptionId};
 use ua_types::{Copyable, DataValue, NodeId};
 
 /// The items of a server under their numbers, and the number of the last one that was made.
@@ -243,33 +237,11 @@ impl ItemTable {
         self.items.forget(subscription);
     }
 
-    /// The item with this number gets other parameters. Takes no memory.
-    pub fn modify(
-        &mut self,
-        number: u32,
-        timestamps: Timestamps,
-        modification: Modification,
-        parameters: &MonitoringParametersView<'_>,
-    )
-        ensures { self.new ≡ record { made = self.old.made; items = with_item number (modified_with timestamps modification parameters.now) self.old.items } }
+    /// The item with this number is changed, if there is one. Takes no memory.
+    pub fn edit(&mut self, number: u32, edit: Edit)
+        ensures { self.new ≡ record { made = self.old.made; items = with_item number (edited edit) self.old.items } }
     {
-        self.items
-            .modify(number, timestamps, modification, parameters);
-    }
-
-    /// The item with this number gets a mode, and queues what was sampled for it where that enables it.
-    /// Takes no memory.
-    pub fn set_mode(&mut self, number: u32, mode: Mode, first: Option<DataValue>)
-        ensures { self.new ≡ record { made = self.old.made; items = with_item number (moded_from mode first) self.old.items } }
-    {
-        self.items.set_mode(number, mode, first);
-    }
-
-    /// The item with this number gets other links. Takes no memory.
-    pub fn set_links(&mut self, number: u32, links: Links)
-        ensures { self.new ≡ record { made = self.old.made; items = with_item number (with_links links) self.old.items } }
-    {
-        self.items.set_links(number, links);
+        self.items.edit(number, edit);
     }
 
     /// Items are released. Takes no memory.

@@ -15,11 +15,12 @@ ghost use Rattle.ua_monitored_items.specs.Undoing.{last_undone, undone, CanBeUnd
 ghost use Rattle.ua_subscription_messages.specs.DataChangeMessages.{with_notes};
 ghost use Rattle.ua_views.specs.Views.{or_none};
 
+use crate::edit::{Edit, Modification};
 use crate::item::{Item, revised_size};
 use crate::item_table::ItemTable;
 use crate::kinds::{Kind, Mode, trigger_of};
 use crate::links::{Linked, Links, link_status, unlink_all};
-use crate::preparing::{Modification, Prepared};
+use crate::preparing::Prepared;
 use crate::releases::Releases;
 use std::alloc::{AllocError, Global};
 use std::collections::BTreeSet;
@@ -362,11 +363,13 @@ impl Items {
         };
         let size = revised_size(self.longest, parameters.queue_size);
         let modification = Modification {
+            timestamps,
+            client_handle: parameters.client_handle,
             trigger,
             size: QueueSize::new(size),
+            discard_oldest: parameters.discard_oldest,
         };
-        self.table
-            .modify(number, timestamps, modification, parameters);
+        self.table.edit(number, Edit::Modify(modification));
         MonitoredItemModifyResult {
             status_code: Status::GOOD,
             revised_sampling_interval: self.interval,
@@ -459,7 +462,7 @@ impl Items {
         if self.own_item(subscription, number).is_none() {
             return Status::BAD_MONITORED_ITEM_ID_INVALID;
         }
-        self.table.set_mode(number, mode, first);
+        self.table.edit(number, Edit::SetMode { mode, first });
         Status::GOOD
     }
 
@@ -644,7 +647,7 @@ impl Items {
         let mut links = self.linked_yet(subscription, &item.links)?;
         let removed = unlink_all(self.alloc, &mut links, remove)?;
         let added = self.link_all(subscription, triggering, &mut links, add)?;
-        self.table.set_links(triggering, links);
+        self.table.edit(triggering, Edit::SetLinks(links));
         Ok(Ok(Linked { added, removed }))
     }
 

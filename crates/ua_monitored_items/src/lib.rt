@@ -32,6 +32,7 @@
 #![tactic(auto)]
 
 mod counted_items;
+mod edit;
 mod index;
 mod item;
 mod item_table;

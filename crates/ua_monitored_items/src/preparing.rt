@@ -1,7 +1,5 @@
-//! What SetMonitoringMode makes ready before it changes an item, and what ModifyMonitoredItems gives one.
+//! What SetMonitoringMode makes ready before it changes an item.
 
-use crate::kinds::Trigger;
-use ua_item_queue::QueueSize;
 use ua_types::DataValue;
 
 /// An entry of SetMonitoringMode, with what it wants.
@@ -11,14 +9,4 @@ pub struct Prepared {
 
     /// What the item queues as it is enabled. None where the item isn't known, or isn't enabled by this.
     pub first: Option<DataValue>,
-}
-
-/// What an entry of ModifyMonitoredItems gives its item, as it was judged, beside the parameters that are copied.
-#[derive(Drop)]
-pub struct Modification {
-    /// Which changes its filter lets through.
-    pub trigger: Trigger,
-
-    /// How many values its queue may hold: the revised size.
-    pub size: QueueSize,
 }

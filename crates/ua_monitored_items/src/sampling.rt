@@ -6,11 +6,13 @@ ghost use Rattle.ua_monitored_items.specs.Releases.{all_released, with_releases,
 ghost use Rattle.ua_monitored_items.specs.Sampling.{visits_by, index_visits, index_shown, IndexShownSome};
 
 use crate::counted_items::CountedItems;
+use crate::edit::Edit;
 use crate::index::Index;
 use crate::releases::Releases;
 use std::alloc::{AllocError, Global};
 use std::collections::BTreeSet;
 use ua_read_write::Change;
+use ua_subscription_messages::SubscriptionId;
 use ua_types::{DataValue, NodeId};
 
 // The items with these numbers see a value, one after the other. Answers what that releases.
@@ -36,7 +38,8 @@ pub(crate) fn release_all(items: &mut CountedItems, releases: &Releases)
     ensures { items.new ≡ all_released items.old releases.now }
 {
     for release in releases.all() {
-        items.release(*release);
+        let subscription = SubscriptionId(release.subscription);
+        items.edit(release.number, Edit::Release(subscription));
     }
 }
 

@@ -175,7 +175,8 @@ impl Services {
         ensures ticks { Serves result self.new (ticking_of setting.now self.old) }
         ensures idle { is_idle setting.now self.old ≡ true → IsOk result }
     {
-        let ended = self.sessions.tick(self.allocator(), setting.clock)?;
+        let alloc = self.allocator();
+        let ended = self.sessions.tick(alloc, setting.clock)?;
         if ended.is_empty() {
             return fire_timers(setting, self);
         }

@@ -12,5 +12,5 @@ loop-release-preserved c =
       tt,
       front ++ release ∷ [],
       append_assoc front (release ∷ []) c.next.new.self ∙ ap (λ xs. front ++ xs) (sym c.in-Some.ensures.steps) ∙ c.loop-release.invariant.3,
-      c.release.ensures ∙ ap (λ (es : NumberedItems). with_release es release) c.loop-release.invariant.4 ∙ sym (fold-append with_release c.args.items.now front (release ∷ [])),
+      c.edit.ensures ∙ ap (λ (es : NumberedItems). with_release es release) c.loop-release.invariant.4 ∙ sym (fold-append with_release c.args.items.now front (release ∷ [])),
     )

@@ -8,8 +8,8 @@ use Rattle.ua_services.proofs.paging.all_pages.Given as goal
 -- what was taken so far is done and written, and the rest is left
 abbrev pub invariant-loop-asked : goal.invariant-loop-asked
 invariant-loop-asked g l = record {
-  written : l.body ≡ l.fn.body ++ flat_map g.P.Answer.Wire.encoding (all_done (g.P.Pages.meaning l.wanted l.space l.history) l.fn.points l.yielded).results;
-  points : l.points ≡ (all_done (g.P.Pages.meaning l.wanted l.space l.history) l.fn.points l.yielded).points;
+  written : l.body ≡ l.fn.body ++ flat_map g.P.Answer.Wire.encoding (all_done (g.P.Pages.meaning l.wanted l.shown.space.now l.shown.history.now) l.fn.points l.yielded).results;
+  points : l.points ≡ (all_done (g.P.Pages.meaning l.wanted l.shown.space.now l.shown.history.now) l.fn.points l.yielded).points;
   in_range : GivesInRange l.fn.points l.points;
   left : l.yielded ++ or_none l.asked-iterator ≡ or_none l.fn.list;
 }
