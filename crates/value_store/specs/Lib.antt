@@ -3,6 +3,7 @@ pub mod Rows
 pub mod Model
 pub mod Laws
 pub mod Steps
+pub mod Faults
 pub mod Forms
 pub mod Keeping
 pub mod Restoring

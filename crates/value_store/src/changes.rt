@@ -1,7 +1,10 @@
 //! What values that are stored make of the rows.
 
-ghost use Rattle.std.specs.Prelude.{◌≡◌, IfOk, OnOk};
+ghost use Rattle.std.specs.Prelude.{◌≡◌, IfErr, IfOk, OnOk};
+ghost use Rattle.std.specs.List.{AllByRecursion};
+ghost use Rattle.ua_types.specs.IdTexts.{IsNamed};
 ghost use Rattle.server_messages.specs.Kept.{put_at, dropped_at, with_stored, AreAlike};
+ghost use Rattle.value_store.specs.Faults.{IsOfRow};
 ghost use Rattle.value_store.specs.Keeping.{HasValue, HasHistory, Grows, AreChanges};
 
 use crate::fault::Fault;
@@ -13,7 +16,9 @@ use ua_types::{Moment, NodeId};
 
 // The variable has the value.
 fn push_value(alloc: Global, stored: &Stored, changes: &mut Vec<RowChange>) -> Result<(), Fault>
-    ensures { OnOk result (Grows (HasValue stored.now.node_id stored.now.value) changes.old.items changes.new.items) }
+    ensures changes { OnOk result (Grows (HasValue stored.now.node_id stored.now.value) changes.old.items changes.new.items) }
+    ensures fault { IfErr result IsOfRow }
+    ensures named { IfErr result (λ e. e ≡ Fault.Unreadable → IsNamed stored.now.node_id.identifier → ⊥) }
 {
     let row = row_of(alloc, &stored.node_id, &stored.value)?;
     changes.push(RowChange::Put(TableName::Value, row))?;
@@ -22,7 +27,9 @@ fn push_value(alloc: Global, stored: &Stored, changes: &mut Vec<RowChange>) -> R
 
 // The variable had the value at its source's time.
 fn push_past(alloc: Global, stored: &Stored, changes: &mut Vec<RowChange>) -> Result<(), Fault>
-    ensures { OnOk result (Grows (HasHistory stored.now.node_id (put_at stored.now.value.source_time stored.now.value)) changes.old.items changes.new.items) }
+    ensures changes { OnOk result (Grows (HasHistory stored.now.node_id (put_at stored.now.value.source_time stored.now.value)) changes.old.items changes.new.items) }
+    ensures fault { IfErr result IsOfRow }
+    ensures named { IfErr result (λ e. e ≡ Fault.Unreadable → IsNamed stored.now.node_id.identifier → ⊥) }
 {
     match stored.value.source_time {
         None => Ok(()),
@@ -41,7 +48,9 @@ fn push_dropped(
     dropped: Option<Moment>,
     changes: &mut Vec<RowChange>,
 ) -> Result<(), Fault>
-    ensures { OnOk result (Grows (HasHistory id.now (dropped_at dropped)) changes.old.items changes.new.items) }
+    ensures changes { OnOk result (Grows (HasHistory id.now (dropped_at dropped)) changes.old.items changes.new.items) }
+    ensures fault { IfErr result IsOfRow }
+    ensures named { IfErr result (λ e. e ≡ Fault.Unreadable → IsNamed id.now.identifier → ⊥) }
 {
     match dropped {
         None => Ok(()),
@@ -54,7 +63,9 @@ fn push_dropped(
 }
 
 fn push_all(alloc: Global, stored: &Stored, changes: &mut Vec<RowChange>) -> Result<(), Fault>
-    ensures { OnOk result (Grows (λ a b. AreAlike (with_stored a stored.now) b) changes.old.items changes.new.items) }
+    ensures changes { OnOk result (Grows (λ a b. AreAlike (with_stored a stored.now) b) changes.old.items changes.new.items) }
+    ensures fault { IfErr result IsOfRow }
+    ensures named { IfErr result (λ e. e ≡ Fault.Unreadable → IsNamed stored.now.node_id.identifier → ⊥) }
 {
     push_value(alloc, stored, changes)?;
     if !stored.is_historical {
@@ -66,7 +77,9 @@ fn push_all(alloc: Global, stored: &Stored, changes: &mut Vec<RowChange>) -> Res
 
 /// The changes of rows that keep these, in their order.
 pub fn changes_of(alloc: Global, stored: &[Stored]) -> Result<Vec<RowChange>, Fault>
-    ensures { IfOk result (λ changes. AreChanges stored.now changes.items) }
+    ensures changes { IfOk result (λ changes. AreChanges stored.now changes.items) }
+    ensures fault { IfErr result IsOfRow }
+    ensures named { IfErr result (λ e. e ≡ Fault.Unreadable → AllByRecursion (λ s. IsNamed s.node_id.identifier) stored.now → ⊥) }
 {
     let mut changes = Vec::new(alloc);
     'each: for one in stored {

@@ -1,6 +1,7 @@
 //! Why a step of the store fails.
 
 ghost use Rattle.std.specs.Prelude.{◌≡◌};
+ghost use Rattle.value_store.specs.Faults.{told_of, told_of_database};
 ghost use Rattle.value_store.specs.declared.fault.Fault.TheVariants as fault;
 
 use server_messages::StoreFault;
@@ -45,7 +46,9 @@ impl<T: Drop> From<AllocFailed<T>> for Fault {
 }
 
 /// The fault as the server names it.
-pub fn stored_fault(fault: Fault) -> StoreFault {
+pub fn stored_fault(fault: Fault) -> StoreFault
+    ensures { result ≡ told_of fault }
+{
     match fault {
         Fault::Database(error) => database_fault(error),
         Fault::OtherTables => StoreFault::OtherTables,
@@ -55,7 +58,9 @@ pub fn stored_fault(fault: Fault) -> StoreFault {
 }
 
 /// An error of the database as the server names it, also of one that can't be opened.
-pub fn database_fault(error: Error) -> StoreFault {
+pub fn database_fault(error: Error) -> StoreFault
+    ensures { result ≡ told_of_database error }
+{
     match error {
         Error::SqliteFailure(ErrorCode::OutOfMemory) => StoreFault::Memory,
         Error::SqliteFailure(ErrorCode::DiskFull) => StoreFault::Full,

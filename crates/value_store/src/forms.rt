@@ -7,11 +7,13 @@
 
 ghost use Rattle.std.specs.Prelude.{◌≡◌, ◌≢◌, ◌<◌, ◌^◌, length, pos, slice_index_or, string_bytes, IfOk, IfErr, IfSome, OnOk, IsTrue, false};
 ghost use Rattle.ua_types.specs.IdTexts.{id_text, id_of, IsNamed};
+ghost use Rattle.ua_types.specs.declared.node_id.NodeId.{NodeId as NodeIdValue};
 ghost use Rattle.ua_binary.specs.Variants.{variant_reading};
 ghost use Rattle.ua_types.specs.Variants.{type_number};
 ghost use Rattle.ua_types.specs.declared.variant.Variant.TheVariants.{String as StringVariant};
 ghost use Rattle.sqlite.specs.declared.types.Value.TheVariants.{Int};
 ghost use Rattle.sqlite.specs.Values.{or_null};
+ghost use Rattle.value_store.specs.Faults.{IsOfRow};
 ghost use Rattle.value_store.specs.Rows.{sql_of};
 ghost use Rattle.value_store.specs.Forms.{whole, natural, truth_in, is_single as is_single_spec, is_small as is_small_spec, is_text as is_text_spec, is_plain as is_plain_spec, bytes_said, integer_said, text_said, value_said, time_said, said_of, IsSole, IsSmall, IsTruth, StandsAs};
 
@@ -191,6 +193,7 @@ fn ticks_of(moment: Option<Moment>) -> Option<i64>
 fn value_in(alloc: Global, bytes: &[u8]) -> Result<Variant, Fault>
     ensures ok { IfOk result (λ value. whole (variant_reading bytes.now) ≡ Some value) }
     ensures err { IfErr result (λ e. e ≢ Fault.Memory → whole (variant_reading bytes.now) ≡ None) }
+    ensures fault { IfErr result IsOfRow }
 {
     let mut cursor = Cursor::new(bytes);
     match Variant::take(alloc, &mut cursor) {
@@ -207,7 +210,8 @@ fn value_in(alloc: Global, bytes: &[u8]) -> Result<Variant, Fault>
 }
 
 fn blob_variant(alloc: Global, kind: u8, bytes: &[u8]) -> Result<Variant, Fault>
-    ensures { IfOk result (λ value. bytes_said kind bytes.now ≡ Some value) }
+    ensures value { IfOk result (λ value. bytes_said kind bytes.now ≡ Some value) }
+    ensures fault { IfErr result IsOfRow }
 {
     if kind != first_of(bytes) {
         return Err(Fault::Unreadable);
@@ -220,7 +224,8 @@ fn blob_variant(alloc: Global, kind: u8, bytes: &[u8]) -> Result<Variant, Fault>
 }
 
 fn text_variant(alloc: Global, kind: u8, text: &str) -> Result<Variant, Fault>
-    ensures { IfOk result (λ value. text_said kind text.now ≡ Some value) }
+    ensures value { IfOk result (λ value. text_said kind text.now ≡ Some value) }
+    ensures fault { IfErr result IsOfRow }
 {
     if kind != 12 || text.len() >= 1 << 31 {
         return Err(Fault::Unreadable);
@@ -258,7 +263,8 @@ fn integer_variant(kind: u8, n: i64) -> Option<Variant>
 }
 
 fn variant_of(alloc: Global, kind: u8, scalar: &Scalar) -> Result<Option<Variant>, Fault>
-    ensures { IfOk result (λ value. value_said kind (sql_of scalar.now) ≡ Some value) }
+    ensures value { IfOk result (λ value. value_said kind (sql_of scalar.now) ≡ Some value) }
+    ensures fault { IfErr result IsOfRow }
 {
     match scalar {
         Scalar::Nothing => {
@@ -281,13 +287,15 @@ fn moment_of(ticks: Option<i64>) -> Option<Moment>
 }
 
 fn status_of(status: i64) -> Result<Status, Fault>
-    ensures { IfOk result (λ s. natural status ≡ Some s.0) }
+    ensures status { IfOk result (λ s. natural status ≡ Some s.0) }
+    ensures fault { IfErr result IsOfRow }
 {
     Ok(Status(u32::try_from(status).ok().ok_or(Fault::Unreadable)?))
 }
 
 fn kind_of(kind: i64) -> Result<u8, Fault>
-    ensures { IfOk result (λ k. natural kind ≡ Some k) }
+    ensures kind { IfOk result (λ k. natural kind ≡ Some k) }
+    ensures fault { IfErr result IsOfRow }
 {
     u8::try_from(kind).ok().ok_or(Fault::Unreadable)
 }
@@ -295,7 +303,8 @@ fn kind_of(kind: i64) -> Result<u8, Fault>
 // ---- rows
 
 fn is_named(identifier: &Identifier) -> bool
-    ensures { IsTrue result → IsNamed identifier.now }
+    ensures named { IsTrue result → IsNamed identifier.now }
+    ensures all { IsNamed identifier.now → IsTrue result }
 {
     match identifier {
         Identifier::Numeric(_) => true,
@@ -309,6 +318,8 @@ fn is_named(identifier: &Identifier) -> bool
 fn id_words(alloc: Global, id: &NodeId) -> Result<String, Fault>
     ensures text { IfOk result (λ t. string_bytes t ≡ id_text id.now) }
     ensures again { OnOk result (id_of (id_text id.now) ≡ Ok id.now) }
+    ensures fault { IfErr result IsOfRow }
+    ensures named { IfErr result (λ e. e ≡ Fault.Unreadable → IsNamed id.now.identifier → ⊥) }
 {
     if !is_named(&id.identifier) {
         return Err(Fault::Unreadable);
@@ -320,6 +331,8 @@ fn id_words(alloc: Global, id: &NodeId) -> Result<String, Fault>
 pub fn id_in(alloc: Global, text: &str) -> Result<NodeId, Fault>
     ensures text { IfOk result (λ id. id_text id ≡ text.now) }
     ensures again { IfOk result (λ id. id_of (id_text id) ≡ Ok id) }
+    ensures fault { IfErr result IsOfRow }
+    ensures unread { IfErr result (λ e. e ≡ Fault.Unreadable → (id : NodeIdValue) → id_text id ≡ text.now → id_of (id_text id) ≡ Ok id → ⊥) }
 {
     let id = match NodeId::parse(alloc, text) {
         Ok(id) => id,
@@ -339,6 +352,8 @@ pub fn row_of(alloc: Global, id: &NodeId, value: &DataValue) -> Result<StoredRow
     ensures again { OnOk result (id_of (id_text id.now) ≡ Ok id.now) }
     ensures source { IfOk result (λ row. time_said (or_null Int row.source_time) ≡ Some value.now.source_time) }
     ensures said { IfOk result (λ row. said_of row ≡ Some value.now) }
+    ensures fault { IfErr result IsOfRow }
+    ensures named { IfErr result (λ e. e ≡ Fault.Unreadable → IsNamed id.now.identifier → ⊥) }
 {
     let node = id_words(alloc, id)?;
     let (kind, scalar) = scalar_of(alloc, &value.value)?;
@@ -356,6 +371,8 @@ pub fn row_of(alloc: Global, id: &NodeId, value: &DataValue) -> Result<StoredRow
 pub fn key_of(alloc: Global, id: &NodeId, time: Moment) -> Result<Key, Fault>
     ensures key { IfOk result (λ key. (string_bytes key.node ≡ id_text id.now) × (key.time ≡ time.0)) }
     ensures again { OnOk result (id_of (id_text id.now) ≡ Ok id.now) }
+    ensures fault { IfErr result IsOfRow }
+    ensures named { IfErr result (λ e. e ≡ Fault.Unreadable → IsNamed id.now.identifier → ⊥) }
 {
     let node = id_words(alloc, id)?;
     Ok(Key { node, time: time.0 })
@@ -365,6 +382,7 @@ pub fn key_of(alloc: Global, id: &NodeId, time: Moment) -> Result<Key, Fault>
 pub fn value_of(alloc: Global, row: &StoredRow) -> Result<DataValue, Fault>
     ensures source { IfOk result (λ v. time_said (or_null Int row.now.source_time) ≡ Some v.source_time) }
     ensures said { IfOk result (λ v. said_of row.now ≡ Some v) }
+    ensures fault { IfErr result IsOfRow }
 {
     let value = variant_of(alloc, kind_of(row.kind)?, &row.value)?;
     Ok(DataValue {

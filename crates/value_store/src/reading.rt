@@ -1,10 +1,11 @@
 //! All that is kept, read back.
 
-ghost use Rattle.std.specs.Prelude.{◌≡◌, [], ◌∷◌, map, IsPermutation, IfOk, OnOk, IsTrue};
+ghost use Rattle.std.specs.Prelude.{◌≡◌, [], ◌∷◌, map, IsPermutation, IfErr, IfOk, OnOk, IsTrue};
 ghost use Rattle.sqlite.specs.declared.types.Value.TheVariants.{Int};
 ghost use Rattle.sqlite.specs.Order.{column};
 ghost use Rattle.sqlite.specs.State.{HasCleanDisk, Survives, IsUnchanged};
 ghost use Rattle.sqlite.specs.Held.{state};
+ghost use Rattle.value_store.specs.Faults.{HasTables};
 ghost use Rattle.value_store.specs.Rows.{row_in as row_in_spec, columns, with_number, IsAbove};
 ghost use Rattle.value_store.specs.Laws.{rows_text as rows_text_spec};
 ghost use Rattle.value_store.specs.Model.{tree_of, AreNumbered, AreRowsOf, AreAll};
@@ -97,7 +98,8 @@ fn row_in(table: TableName, row: &Row) -> Result<StoredRow, Error>
 }
 
 fn rows_told(alloc: Global, table: TableName, rows: &[Row]) -> Result<Vec<StoredRow>, Fault>
-    ensures { IfOk result (λ stored. map (row_in_spec table) stored.items ≡ map columns rows.now) }
+    ensures rows { IfOk result (λ stored. map (row_in_spec table) stored.items ≡ map columns rows.now) }
+    ensures fault { IfErr result HasTables }
 {
     let mut stored = Vec::new(alloc);
     'each: for row in rows {
@@ -117,6 +119,7 @@ fn rows_in<S: Alter>(
     ensures numbered { HasCleanDisk (state S.Store conn.new) → OnOk result (AreNumbered ((state S.Store conn.old).now.trees (tree_of table))) }
     ensures same { HasCleanDisk (state S.Store conn.new) → OnOk result (IsUnchanged (state S.Store conn.old) (state S.Store conn.new)) }
     ensures crash { Survives (state S.Store conn.old) (state S.Store conn.new) (λ _. ⊥) }
+    ensures fault { IfErr result HasTables }
 {
     let rows = shown_rows(conn, table)?;
     if !numbers_rise(&rows)? {
@@ -132,6 +135,7 @@ pub fn read_back<S: Alter>(alloc: Global, conn: &mut Connection<S>) -> Result<St
     ensures ready { OnOk result (IsReady (state S.Store conn.new)) }
     ensures same { HasCleanDisk (state S.Store conn.new) → OnOk result (IsUnchanged (state S.Store conn.old) (state S.Store conn.new)) }
     ensures crash { Survives (state S.Store conn.old) (state S.Store conn.new) (λ _. ⊥) }
+    ensures fault { IfErr result HasTables }
 {
     let values = rows_in(alloc, conn, TableName::Value)?;
     let pasts = rows_in(alloc, conn, TableName::History)?;
@@ -146,6 +150,7 @@ pub fn begin<S: Alter>(alloc: Global, conn: &mut Connection<S>) -> Result<Stored
     ensures ready { OnOk result (IsReady (state S.Store conn.new)) }
     // Where the tables are there, nothing is changed.
     ensures same { HasCleanDisk (state S.Store conn.new) → (state S.Store conn.old).now.schema ≡ store_schema → OnOk result (IsUnchanged (state S.Store conn.old) (state S.Store conn.new)) }
+    ensures fault { (state S.Store conn.old).now.schema ≡ store_schema → IfErr result HasTables }
 {
     if !prepare(conn)? {
         return Err(Fault::OtherTables);

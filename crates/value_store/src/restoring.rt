@@ -1,11 +1,12 @@
 //! Rows that were read back, as the values that they say.
 
-ghost use Rattle.std.specs.Prelude.{◌≡◌, ◌<◌, ◌+◌, IfOk, IsTrue};
+ghost use Rattle.std.specs.Prelude.{◌≡◌, ◌<◌, ◌+◌, IfErr, IfOk, IsTrue};
 ghost use Rattle.std.specs.List.{AllZip};
 ghost use Rattle.std.specs.declared.cmp.Ordering.TheVariants.{Less};
 ghost use Rattle.std.specs.List.Sorted.{IsPermutation};
 ghost use Rattle.server_messages.specs.Kept.{AreAlike, read_back};
 ghost use Rattle.sqlite.specs.Tree.{Trees};
+ghost use Rattle.value_store.specs.Faults.{IsOfRow};
 ghost use Rattle.value_store.specs.Model.{AreAll};
 ghost use Rattle.value_store.specs.Keeping.{kept_at};
 ghost use Rattle.value_store.specs.Restoring.{IsOf, order_in as order_in_spec, source_ticks as source_ticks_spec, Rise};
@@ -20,7 +21,8 @@ use std::cmp::Ordering;
 use ua_types::Moment;
 
 fn value_said(alloc: Global, row: &StoredRow) -> Result<KeptValue, Fault>
-    ensures { IfOk result (IsOf row.now) }
+    ensures value { IfOk result (IsOf row.now) }
+    ensures fault { IfErr result IsOfRow }
 {
     let node_id = id_in(alloc, row.node.as_str())?;
     let value = value_of(alloc, row)?;
@@ -28,7 +30,8 @@ fn value_said(alloc: Global, row: &StoredRow) -> Result<KeptValue, Fault>
 }
 
 fn values_said(alloc: Global, rows: &[StoredRow]) -> Result<Vec<KeptValue>, Fault>
-    ensures { IfOk result (λ kept. AllZip IsOf rows.now kept.items) }
+    ensures values { IfOk result (λ kept. AllZip IsOf rows.now kept.items) }
+    ensures fault { IfErr result IsOfRow }
 {
     let mut kept = Vec::new(alloc);
     'each: for row in rows {
@@ -95,6 +98,7 @@ fn sort(table: TableName, kept: &mut [KeptValue])
 fn in_order(table: TableName, kept: Vec<KeptValue>) -> Result<Vec<KeptValue>, Fault>
     ensures moved { IfOk result (λ values. IsPermutation kept.items values.items) }
     ensures rise { IfOk result (λ values. Rise (order_in_spec table) values.items) }
+    ensures fault { IfErr result IsOfRow }
 {
     let mut values = kept;
     sort(table, &mut values);
@@ -106,7 +110,8 @@ fn in_order(table: TableName, kept: Vec<KeptValue>) -> Result<Vec<KeptValue>, Fa
 
 /// What all of the rows say, in the order of ids and times. Two rows of one key say nothing.
 pub fn restored(alloc: Global, rows: &StoredRows) -> Result<KeptValues, Fault>
-    ensures { IfOk result (λ kept. (trees : Trees) → AreAll trees rows.now.values.items rows.now.pasts.items → AreAlike (read_back kept.values.items kept.histories.items) (kept_at trees)) }
+    ensures restored { IfOk result (λ kept. (trees : Trees) → AreAll trees rows.now.values.items rows.now.pasts.items → AreAlike (read_back kept.values.items kept.histories.items) (kept_at trees)) }
+    ensures fault { IfErr result IsOfRow }
 {
     let said = values_said(alloc, &rows.values)?;
     let past = values_said(alloc, &rows.pasts)?;

@@ -1,12 +1,14 @@
 //! The store that a server keeps values and histories in.
 
-ghost use Rattle.std.specs.Prelude.{◌≡◌, [], IfOk, IfSome, OnOk, OnErr};
+ghost use Rattle.std.specs.Prelude.{◌≡◌, ◌≢◌, [], IfErr, IfOk, IfSome, OnOk, OnErr};
 ghost use Rattle.server_messages.specs.Kept.{AreAlike, Keeps, GrowsBy, read_back};
 ghost use Rattle.sqlite.specs.State.{HasCleanDisk, IsUnchanged};
 ghost use Rattle.sqlite.specs.Held.{state};
+ghost use Rattle.value_store.specs.Faults.{HasTables};
 ghost use Rattle.value_store.specs.Steps.{IsReady, IsSettled};
 ghost use Rattle.value_store.specs.Ready.{IsReady-prop, IsSettled-prop};
 ghost use Rattle.value_store.specs.Tables.{store_schema};
+ghost use Rattle.server_messages.specs.declared.store_fault.StoreFault.TheVariants as fault;
 ghost use Rattle.value_store.specs.Keeping.{kept_in, MayFind};
 
 use crate::changes::changes_of;
@@ -24,6 +26,7 @@ fn restore<S: Alter>(alloc: Global, conn: &mut Connection<S>) -> Result<KeptValu
     ensures ready { OnOk result (IsReady (state S.Store conn.new)) }
     ensures settled { OnOk result (IsSettled (state S.Store conn.new)) }
     ensures same { HasCleanDisk (state S.Store conn.new) → (state S.Store conn.old).now.schema ≡ store_schema → OnOk result (IsUnchanged (state S.Store conn.old) (state S.Store conn.new)) }
+    ensures fault { (state S.Store conn.old).now.schema ≡ store_schema → IfErr result HasTables }
 {
     let rows = reading::begin(alloc, conn)?;
     if !conn.is_autocommit() {
@@ -45,6 +48,7 @@ fn keep_all<S: Alter>(
     ensures kept { OnOk result (Keeps stored.now (kept_in (state S.Store conn.old)) (kept_in (state S.Store conn.new))) }
     ensures refused { OnErr result (Keeps [] (kept_in (state S.Store conn.old)) (kept_in (state S.Store conn.new))) }
     ensures crash { GrowsBy stored.now (kept_in (state S.Store conn.old)) (MayFind (state S.Store conn.old)) (MayFind (state S.Store conn.new)) }
+    ensures fault { IfErr result HasTables }
 {
     let changes = changes_of(alloc, stored)?;
     keep(conn, &changes)
@@ -82,7 +86,8 @@ impl<S: Alter + Drop> ValueStore<S> {
         conn: Connection<S>,
     ) -> Result<(ValueStore<S>, KeptValues), StoreFault>
         ensures read { IfOk result (λ begun. IfSome (kept_in (state_of begun.0)) (AreAlike (read_back begun.1.values.items begun.1.histories.items))) }
-        // Where the tables are there, nothing is changed.
+        // Where the tables are there, no others are told, and nothing is changed.
+        ensures tables { (state S.Store conn).now.schema ≡ store_schema → IfErr result (λ e. e ≢ fault.OtherTables) }
         ensures same { IfOk result (λ begun. HasCleanDisk (state_of begun.0) → (state S.Store conn).now.schema ≡ store_schema → IsUnchanged (state S.Store conn) (state_of begun.0)) }
     {
         let mut conn = conn;

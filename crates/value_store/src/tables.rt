@@ -12,7 +12,8 @@ use sqlite_value::keys::{Collation, Order};
 use sqlite_value::value::Value;
 
 fn is_plain(column: &Column, name: &str, kind: Kind, not_null: bool) -> bool
-    ensures { IsTrue result → column.now ≡ plain_column name.now kind not_null }
+    ensures plain { IsTrue result → column.now ≡ plain_column name.now kind not_null }
+    ensures all { column.now ≡ plain_column name.now kind not_null → IsTrue result }
 {
     column.name.as_slice() == name.as_bytes()
         && column.kind == kind
@@ -23,7 +24,8 @@ fn is_plain(column: &Column, name: &str, kind: Kind, not_null: bool) -> bool
 }
 
 fn has_value_columns(table: &Table) -> bool
-    ensures { IsTrue result → table.now.columns ≡ value_table.columns }
+    ensures columns { IsTrue result → table.now.columns ≡ value_table.columns }
+    ensures all { table.now.columns ≡ value_table.columns → IsTrue result }
 {
     let [node, kind, value, status, source, server] = table.columns.as_slice() else {
         return false;
@@ -38,7 +40,8 @@ fn has_value_columns(table: &Table) -> bool
 }
 
 fn has_history_columns(table: &Table) -> bool
-    ensures { IsTrue result → table.now.columns ≡ history_table.columns }
+    ensures columns { IsTrue result → table.now.columns ≡ history_table.columns }
+    ensures all { table.now.columns ≡ history_table.columns → IsTrue result }
 {
     let [node, time, kind, value, status, server] = table.columns.as_slice() else {
         return false;
@@ -54,7 +57,8 @@ fn has_history_columns(table: &Table) -> bool
 
 // Whether these places are the one key.
 fn has_key(table: &Table, places: &[usize]) -> bool
-    ensures { IsTrue result → table.now.uniques ≡ places.now ∷ [] }
+    ensures key { IsTrue result → table.now.uniques ≡ places.now ∷ [] }
+    ensures all { table.now.uniques ≡ places.now ∷ [] → IsTrue result }
 {
     match table.uniques.as_slice() {
         [key] => key.as_slice() == places,
@@ -64,7 +68,8 @@ fn has_key(table: &Table, places: &[usize]) -> bool
 
 // Whether the one key rises, in the order of bytes.
 fn is_ordered(table: &Table) -> bool
-    ensures { IsTrue result → table.now.orders ≡ plain ∷ [] }
+    ensures order { IsTrue result → table.now.orders ≡ plain ∷ [] }
+    ensures all { table.now.orders ≡ plain ∷ [] → IsTrue result }
 {
     match table.orders.as_slice() {
         [order] => *order == Order::PLAIN,
@@ -74,7 +79,8 @@ fn is_ordered(table: &Table) -> bool
 
 // Whether it has no rule beside its key.
 fn is_bare(table: &Table) -> bool
-    ensures { IsTrue result → (table.now.checks ≡ []) × (table.now.references ≡ []) × (table.now.computed ≡ []) × (table.now.stamps ≡ value_table.stamps) × (table.now.is_counted ≡ false) }
+    ensures bare { IsTrue result → (table.now.checks ≡ []) × (table.now.references ≡ []) × (table.now.computed ≡ []) × (table.now.stamps ≡ value_table.stamps) × (table.now.is_counted ≡ false) }
+    ensures all { table.now.checks ≡ [] → table.now.references ≡ [] → table.now.computed ≡ [] → table.now.stamps ≡ value_table.stamps → table.now.is_counted ≡ false → IsTrue result }
 {
     table.checks.roots.is_empty()
         && table.references.is_empty()
@@ -87,7 +93,8 @@ fn is_bare(table: &Table) -> bool
 
 // Whether it has the name, the tree and the key.
 fn is_keyed(table: &Table, name: &str, tree: u32, places: &[usize]) -> bool
-    ensures { IsTrue result → (table.now.name ≡ name.now) × (table.now.tree ≡ tree) × (table.now.key ≡ None) × (table.now.primary ≡ places.now) × (table.now.uniques ≡ places.now ∷ []) × (table.now.orders ≡ plain ∷ []) }
+    ensures keyed { IsTrue result → (table.now.name ≡ name.now) × (table.now.tree ≡ tree) × (table.now.key ≡ None) × (table.now.primary ≡ places.now) × (table.now.uniques ≡ places.now ∷ []) × (table.now.orders ≡ plain ∷ []) }
+    ensures all { table.now.name ≡ name.now → table.now.tree ≡ tree → table.now.key ≡ None → table.now.primary ≡ places.now → table.now.uniques ≡ places.now ∷ [] → table.now.orders ≡ plain ∷ [] → IsTrue result }
 {
     let named = table.name.as_slice() == name.as_bytes();
     let numbered = table.tree == tree;
@@ -99,7 +106,8 @@ fn is_keyed(table: &Table, name: &str, tree: u32, places: &[usize]) -> bool
 }
 
 fn is_value(table: &Table) -> bool
-    ensures { IsTrue result → table.now ≡ value_table }
+    ensures table { IsTrue result → table.now ≡ value_table }
+    ensures all { table.now ≡ value_table → IsTrue result }
 {
     let keyed = is_keyed(table, "value", 0, &[1]);
     let columns = has_value_columns(table);
@@ -108,7 +116,8 @@ fn is_value(table: &Table) -> bool
 }
 
 fn is_history(table: &Table) -> bool
-    ensures { IsTrue result → table.now ≡ history_table }
+    ensures table { IsTrue result → table.now ≡ history_table }
+    ensures all { table.now ≡ history_table → IsTrue result }
 {
     let keyed = is_keyed(table, "history", 2, &[1, 2]);
     let columns = has_history_columns(table);
@@ -118,7 +127,8 @@ fn is_history(table: &Table) -> bool
 
 // Whether it is the index of a key, by its parts.
 fn is_key(index: &Index, name: &str, tree: u32, table: u32, places: &[usize]) -> bool
-    ensures { IsTrue result → index.now ≡ record { name = name.now; tree = tree; table = table; columns = places.now; order = plain; is_unique = true } }
+    ensures key { IsTrue result → index.now ≡ record { name = name.now; tree = tree; table = table; columns = places.now; order = plain; is_unique = true } }
+    ensures all { index.now ≡ record { name = name.now; tree = tree; table = table; columns = places.now; order = plain; is_unique = true } → IsTrue result }
 {
     index.name.as_slice() == name.as_bytes()
         && index.tree == tree
@@ -129,7 +139,8 @@ fn is_key(index: &Index, name: &str, tree: u32, table: u32, places: &[usize]) ->
 }
 
 fn has_keys(schema: &Schema) -> bool
-    ensures { IsTrue result → schema.now.indexes ≡ store_schema.indexes }
+    ensures keys { IsTrue result → schema.now.indexes ≡ store_schema.indexes }
+    ensures all { schema.now.indexes ≡ store_schema.indexes → IsTrue result }
 {
     match schema.indexes.as_slice() {
         [value, history] => {
@@ -141,7 +152,8 @@ fn has_keys(schema: &Schema) -> bool
 }
 
 fn has_tables(schema: &Schema) -> bool
-    ensures { IsTrue result → schema.now.tables ≡ store_schema.tables }
+    ensures tables { IsTrue result → schema.now.tables ≡ store_schema.tables }
+    ensures all { schema.now.tables ≡ store_schema.tables → IsTrue result }
 {
     match schema.tables.as_slice() {
         [value, history] => is_value(value) && is_history(history),
@@ -151,7 +163,8 @@ fn has_tables(schema: &Schema) -> bool
 
 /// Whether the database has the two tables with their keys, and no other table, index or view.
 pub fn is_store(schema: &Schema) -> bool
-    ensures { IsTrue result → schema.now ≡ store_schema }
+    ensures store { IsTrue result → schema.now ≡ store_schema }
+    ensures all { schema.now ≡ store_schema → IsTrue result }
 {
     has_tables(schema) && has_keys(schema) && schema.views.is_empty()
 }
@@ -183,7 +196,7 @@ fn has_no_table(schema: &Schema) -> bool
 pub fn prepare<S: Alter>(conn: &mut Connection<S>) -> Result<bool, Fault>
     ensures ready { OnOk result (result ≡ Ok true → (state S.Store conn.new).now.schema ≡ store_schema) }
     // Where the tables are there, nothing is done.
-    ensures same { (state S.Store conn.old).now.schema ≡ store_schema → conn.new ≡ conn.old }
+    ensures same { (state S.Store conn.old).now.schema ≡ store_schema → (result ≡ Ok true) × (conn.new ≡ conn.old) }
 {
     if !has_no_table(conn.schema()) {
         return Ok(is_store(conn.schema()));

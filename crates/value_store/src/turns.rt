@@ -1,9 +1,10 @@
 //! One transaction for the changes of a turn.
 
-ghost use Rattle.std.specs.Prelude.{◌≡◌, IfOk, OnOk, OnErr, IsTrue};
+ghost use Rattle.std.specs.Prelude.{◌≡◌, IfErr, IfOk, OnOk, OnErr, IsTrue};
 ghost use Rattle.sqlite.specs.State.{HasCleanDisk, Survives};
 ghost use Rattle.sqlite.specs.Held.{state};
 ghost use Rattle.sqlite.specs.Values.{bound};
+ghost use Rattle.value_store.specs.Faults.{IsOfDatabase};
 ghost use Rattle.value_store.specs.Rows.{row_in, key_in};
 ghost use Rattle.value_store.specs.Laws.{add_text as add_text_spec, renew_text as renew_text_spec};
 ghost use Rattle.value_store.specs.Model.{IsAfter};
@@ -175,6 +176,7 @@ pub fn keep<S: Alter>(conn: &mut Connection<S>, turn: &[RowChange]) -> Result<()
     ensures kept { HasCleanDisk (state S.Store conn.new) → OnOk result (IsAfter turn.now (state S.Store conn.old).now.trees (state S.Store conn.new).now.trees) }
     ensures refused { HasCleanDisk (state S.Store conn.new) → IsTrue (state S.Store conn.new).is_open → OnErr result (((state S.Store conn.new).now ≡ (state S.Store conn.old).now) × ((state S.Store conn.new).committed ≡ (state S.Store conn.old).committed)) }
     ensures crash { Survives (state S.Store conn.old) (state S.Store conn.new) (λ trees. IsAfter turn.now (state S.Store conn.old).now.trees trees) }
+    ensures fault { IfErr result IsOfDatabase }
 {
     match make_all(conn, turn) {
         Ok(()) => Ok(()),

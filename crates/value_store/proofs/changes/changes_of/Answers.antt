@@ -12,7 +12,7 @@ each-preserved c =
     let old = c.each.changes.items in
     let new = c.push_all.new.changes.items in
     let more = take_more c.args.stored.now c.each.one-index one (omega (arith, c.each-test.true)) in
-    subst (λ (l : List Stored). AreChanges l new) (sym (more ∙ ap (λ x. done ++ x ∷ []) (sym c.one-item.is))) (changes_more done one old new c.each.invariant c.in_ok-push_all.ensures)
+    subst (λ (l : List Stored). AreChanges l new) (sym (more ∙ ap (λ x. done ++ x ∷ []) (sym c.one-item.is))) (changes_more done one old new c.each.invariant c.in_ok-push_all.ensures.changes)
 
-pub returns : goal.returns
-returns c = subst (λ (l : List Stored). AreChanges l c.each.changes.items) (take_all c.each.one-index c.args.stored.now (omega (arith, c.each-test.false))) c.each.invariant
+pub returns-clause-changes : goal.returns-clause-changes
+returns-clause-changes c = subst (λ (l : List Stored). AreChanges l c.each.changes.items) (take_all c.each.one-index c.args.stored.now (omega (arith, c.each-test.false))) c.each.invariant

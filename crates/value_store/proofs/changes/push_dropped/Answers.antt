@@ -6,8 +6,8 @@ use Rattle.value_store.specs.declared.rows.RowChange.TheVariants as change
 use Rattle.value_store.proofs.Telling.{grows_push, has_dropped}
 use Rattle.value_store.proofs.changes.push_dropped.Goals as goal
 
-pub returns-in_ok-push-in-Some : goal.returns-in_ok-push-in-Some
-returns-in_ok-push-in-Some c =
+pub returns-in_ok-push-in-Some-clause-changes : goal.returns-in_ok-push-in-Some-clause-changes
+returns-in_ok-push-in-Some-clause-changes c =
     let id = c.args.id.now in
     let time = c.in-Some.time in
     let key = c.in_ok-key-in-Some.key in

@@ -5,8 +5,8 @@ use Rattle.value_store.specs.declared.rows.TableName.TheVariants as table
 use Rattle.value_store.proofs.Telling.{grows_push, has_put}
 use Rattle.value_store.proofs.changes.push_past.Goals as goal
 
-pub returns-in_ok-push-in-Some : goal.returns-in_ok-push-in-Some
-returns-in_ok-push-in-Some c =
+pub returns-in_ok-push-in-Some-clause-changes : goal.returns-in_ok-push-in-Some-clause-changes
+returns-in_ok-push-in-Some-clause-changes c =
     let id = c.args.stored.now.node_id in
     let value = c.args.stored.now.value in
     let row = c.in_ok-row-in-Some.row in

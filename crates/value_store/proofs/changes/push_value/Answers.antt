@@ -4,8 +4,8 @@ use Rattle.value_store.specs.declared.rows.TableName.TheVariants as table
 use Rattle.value_store.proofs.Telling.{grows_push, has_value}
 use Rattle.value_store.proofs.changes.push_value.Goals as goal
 
-pub returns : goal.returns
-returns c =
+pub returns-clause-changes : goal.returns-clause-changes
+returns-clause-changes c =
     let id = c.args.stored.now.node_id in
     let value = c.args.stored.now.value in
     let row = c.in_ok-row.row in

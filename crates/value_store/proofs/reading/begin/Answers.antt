@@ -15,4 +15,4 @@ returns-clause-all g c clean = both (state g.S.Store c.prepare.new.conn) (state 
 
 pub returns-clause-same : goal.returns-clause-same
 returns-clause-same g c clean has =
-    subst (λ h. OnOk c.read_back.result (IsUnchanged (state g.S.Store h) (state g.S.Store c.read_back.new.conn))) (c.prepare.ensures.same has) (c.read_back.ensures.same clean)
+    subst (λ h. OnOk c.read_back.result (IsUnchanged (state g.S.Store h) (state g.S.Store c.read_back.new.conn))) (c.prepare.ensures.same has).1 (c.read_back.ensures.same clean)

@@ -12,7 +12,7 @@ returns-clause-kept g c =
     let old = state g.S.Store c.args.conn.now in
     let new = state g.S.Store c.keep.new.conn in
     let changes = c.in_ok-changes.changes.items in
-    where_clean c.keep.result c.keep.ensures.kept (λ after. keeps c.args.stored.now old new (λ clean. has_all c.args.stored.now changes old.now.trees new.now.trees c.in_ok-changes.ensures
+    where_clean c.keep.result c.keep.ensures.kept (λ after. keeps c.args.stored.now old new (λ clean. has_all c.args.stored.now changes old.now.trees new.now.trees c.in_ok-changes.ensures.changes
     (subst (λ (turn : List RowChange). IsAfter turn old.now.trees new.now.trees) c.deref.ensures.value (after clean))))
 
 pub returns-clause-refused : goal.returns-clause-refused
@@ -28,5 +28,5 @@ returns-clause-crash g c =
     let changes = c.in_ok-changes.changes.items in
     grows c.args.stored.now old new (λ clean. omega (arith, c.keep.ensures.crash.clean)) (λ clean trees may. elim (c.keep.ensures.crash.crash clean trees may) [
       | inl left ↦ inl left
-      | inr after ↦ inr (has_all c.args.stored.now changes old.now.trees trees c.in_ok-changes.ensures (subst (λ (turn : List RowChange). IsAfter turn old.now.trees trees) c.deref.ensures.value after))
+      | inr after ↦ inr (has_all c.args.stored.now changes old.now.trees trees c.in_ok-changes.ensures.changes (subst (λ (turn : List RowChange). IsAfter turn old.now.trees trees) c.deref.ensures.value after))
     ])

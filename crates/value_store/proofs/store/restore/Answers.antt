@@ -9,7 +9,7 @@ use Rattle.value_store.proofs.store.restore.Goals as goal
 pub returns-clause-read : goal.returns-clause-read
 returns-clause-read g c =
     let new = state g.S.Store c.begin.new.conn in
-    told c.restored.result _ _ (λ kept h. begun new (read_back kept.values.items kept.histories.items) (λ clean. h new.now.trees (c.in_ok-rows.ensures.all clean))) c.restored.ensures
+    told c.restored.result _ _ (λ kept h. begun new (read_back kept.values.items kept.histories.items) (λ clean. h new.now.trees (c.in_ok-rows.ensures.all clean))) c.restored.ensures.restored
 
 pub returns-clause-same : goal.returns-clause-same
 returns-clause-same g c clean has = anyway c.restored.result (c.in_ok-rows.ensures.same clean has)
