@@ -1,6 +1,6 @@
 //! The subscriptions of a server.
 
-ghost use Rattle.std.specs.Prelude.{◌≡◌, ◌<◌, ◌-◌, ◌^◌, false, [], length, option_map, IfOk, OnOk, IsOk, None};
+ghost use Rattle.std.specs.Prelude.{◌≡◌, ◌<◌, ◌-◌, ◌^◌, false, [], length, option_map, IfErr, IfOk, OnOk, IsOk, None, Some};
 ghost use Rattle.std.specs.Map.{values_of};
 ghost use Rattle.ua_subscriptions.specs.Ending.{session_ended, shut_down, all_requests, without_conn};
 ghost use Rattle.ua_subscriptions.specs.Making.{kept_at, modified, republished, timed};
@@ -83,12 +83,17 @@ impl Subscriptions {
         }
     }
 
-    // What rows are done with at this clock.
-    fn round(&self, items: &Items, clock: Moment) -> Round
-        ensures { result ≡ round_of self.now clock }
+    // What rows are done with at this clock, unless an earlier call ended all.
+    fn begin(&self, items: &Items, clock: Moment) -> Result<Round, Halt>
+        ensures round { IfOk result (λ round. round ≡ round_of self.now clock) }
+        ensures going { OnOk result (self.now.halted ≡ None) }
+        ensures halted { IfErr result (λ halt. self.now.halted ≡ Some halt) }
     {
+        if let Some(halt) = self.halted {
+            return Err(halt);
+        }
         let alloc = items.allocator();
-        Round {
+        Ok(Round {
             bounds: self.bounds,
             clock,
             own: SubscriptionId(0),
@@ -97,7 +102,7 @@ impl Subscriptions {
             message_count: self.message_count,
             replies: ShortList::new(alloc),
             rows: Listed::new(alloc),
-        }
+        })
     }
 
     // Ends a call.
@@ -151,10 +156,9 @@ impl Subscriptions {
         settings: Settings,
         enabled: bool,
     ) -> Result<Answered<Result<Created, Status>>, Halt>
-        requires { self.old.halted ≡ None }
         ensures { Serves result self.old self.new items.new (refused requester.session settings enabled self.old (stage_of self.old items.old requester.clock)) }
     {
-        let mut round = self.round(items, requester.clock);
+        let mut round = self.begin(items, requester.clock)?;
         let table = &self.table;
         match table.refuse(&mut round, items, requester.session, settings, enabled) {
             Ok(()) => self.settle(round, Ok(Err(Status::BAD_TOO_MANY_SUBSCRIPTIONS))),
@@ -171,11 +175,10 @@ impl Subscriptions {
         settings: Settings,
         enabled: bool,
     ) -> Result<Answered<Result<Created, Status>>, Halt>
-        requires going { self.old.halted ≡ None }
-        requires room { self.old.made < 2 ^ 32 - 1 }
+        requires { self.old.made < 2 ^ 32 - 1 }
         ensures { Serves result self.old self.new items.new (created_one requester.session settings enabled self.old (stage_of self.old items.old requester.clock)) }
     {
-        let mut round = self.round(items, requester.clock);
+        let mut round = self.begin(items, requester.clock)?;
         let number = self.made + 1;
         self.made = number;
         let table = &mut self.table;
@@ -203,9 +206,6 @@ impl Subscriptions {
     ) -> Result<Answered<Result<Created, Status>>, Halt>
         ensures { Serves result self.old self.new items.new (created requester.session settings enabled self.old items.old requester.clock) }
     {
-        if let Some(halt) = self.halted {
-            return Err(halt);
-        }
         if self.is_full(requester.session) {
             self.refuse(items, requester, settings, enabled)
         } else {
@@ -227,10 +227,7 @@ impl Subscriptions {
         ensures serves { Serves result self.old self.new items.new (said self.old (modified requester.session subscription settings (stage_of self.old items.old requester.clock))) }
         ensures memory { self.old.halted ≡ None → is_own_spec self.old.table requester.session subscription ≡ false → IsOk result }
     {
-        if let Some(halt) = self.halted {
-            return Err(halt);
-        }
-        let mut round = self.round(items, requester.clock);
+        let mut round = self.begin(items, requester.clock)?;
         let answer = self.table.modify(
             &mut round,
             items,
@@ -254,10 +251,7 @@ impl Subscriptions {
     ) -> Result<Answered<Listed<Status>>, Halt>
         ensures { Serves result self.old self.new items.new (said self.old (named_all requester.session (SetMode enabled) (stage_of self.old items.old requester.clock) (or_none numbers.entry))) }
     {
-        if let Some(halt) = self.halted {
-            return Err(halt);
-        }
-        let mut round = self.round(items, requester.clock);
+        let mut round = self.begin(items, requester.clock)?;
         let call = Call::SetMode { enabled };
         let answer = self
             .table
@@ -278,10 +272,7 @@ impl Subscriptions {
     ) -> Result<Answered<Listed<Status>>, Halt>
         ensures { Serves result self.old self.new items.new (said self.old (deleted requester.session (stage_of self.old items.old requester.clock) (or_none numbers.entry))) }
     {
-        if let Some(halt) = self.halted {
-            return Err(halt);
-        }
-        let mut round = self.round(items, requester.clock);
+        let mut round = self.begin(items, requester.clock)?;
         let answer = self
             .table
             .delete(&mut round, items, requester.session, numbers);
@@ -303,10 +294,7 @@ impl Subscriptions {
     ) -> Result<Answered<()>, Halt>
         ensures { Serves result self.old self.new items.new (without_answer self.old (published requester.session call (or_none acknowledgements.entry) (stage_of self.old items.old requester.clock))) }
     {
-        if let Some(halt) = self.halted {
-            return Err(halt);
-        }
-        let mut round = self.round(items, requester.clock);
+        let mut round = self.begin(items, requester.clock)?;
         let answer = self.table.publish(
             &mut round,
             items,
@@ -332,10 +320,7 @@ impl Subscriptions {
         ensures serves { Serves result self.old self.new items.new (said self.old (republished requester.session subscription wanted (stage_of self.old items.old requester.clock))) }
         ensures memory { self.old.halted ≡ None → is_own_spec self.old.table requester.session subscription ≡ false → IsOk result }
     {
-        if let Some(halt) = self.halted {
-            return Err(halt);
-        }
-        let mut round = self.round(items, requester.clock);
+        let mut round = self.begin(items, requester.clock)?;
         let answer = self
             .table
             .republish(&mut round, items, requester.session, subscription, wanted);
@@ -348,10 +333,7 @@ impl Subscriptions {
         ensures serves { Serves result self.old self.new items.new (without_answer self.old (timed (stage_of self.old items.old clock))) }
         ensures none { self.old.halted ≡ None → is_any_due clock self.old.table.subscriptions ≡ false → IsOk result }
     {
-        if let Some(halt) = self.halted {
-            return Err(halt);
-        }
-        let mut round = self.round(items, clock);
+        let mut round = self.begin(items, clock)?;
         let answer = self.table.timers(&mut round, items);
         self.settle(round, answer)
     }
@@ -367,10 +349,7 @@ impl Subscriptions {
     ) -> Result<Answered<()>, Halt>
         ensures { Serves result self.old self.new items.new (without_answer self.old (session_ended session deleting (stage_of self.old items.old clock))) }
     {
-        if let Some(halt) = self.halted {
-            return Err(halt);
-        }
-        let mut round = self.round(items, clock);
+        let mut round = self.begin(items, clock)?;
         let answer = self.table.end_session(&mut round, items, session, deleting);
         self.settle(round, answer)
     }
@@ -384,10 +363,7 @@ impl Subscriptions {
         ensures empty { OnOk result (self.new.table ≡ no_table) }
         ensures none { self.old.halted ≡ None → self.old.table.subscriptions ≡ [] → all_requests (values_of self.old.table.sessions) ≡ [] → IsOk result }
     {
-        if let Some(halt) = self.halted {
-            return Err(halt);
-        }
-        let mut round = self.round(items, clock);
+        let mut round = self.begin(items, clock)?;
         let answer = self.table.shut_down(&mut round, items);
         self.settle(round, answer)
     }
@@ -404,10 +380,7 @@ impl Subscriptions {
         ensures serves { Serves result self.old self.new items.new (without_answer self.old (met (stage_of self.old items.old clock) subscription (ItemsCall before))) }
         ensures memory { self.old.halted ≡ None → subscription_at subscription self.old.table.subscriptions ≡ None → IsOk result }
     {
-        if let Some(halt) = self.halted {
-            return Err(halt);
-        }
-        let mut round = self.round(items, clock);
+        let mut round = self.begin(items, clock)?;
         let call = Call::Items { before };
         let answer = self.table.fire_one(&mut round, items, subscription, call);
         self.settle(round, answer)
