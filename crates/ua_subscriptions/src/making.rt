@@ -118,10 +118,7 @@ impl LiveSubscriptions {
         };
         let mut subscription = Subscription::unborn(alloc, session);
         let askers = &mut self.askers;
-        match fire_of(round, &mut subscription, session, &mut part, askers, items) {
-            Ok(()) => {}
-            Err(halt) => return Err(halt),
-        }
+        fire_of(round, &mut subscription, session, &mut part, askers, items)?;
         part.numbers.insert(number.0)?;
         self.sessions.insert(session, part)?;
         insert_at(
@@ -149,10 +146,8 @@ impl LiveSubscriptions {
         if !self.is_own(session, subscription) {
             return Ok(Err(Status::BAD_SUBSCRIPTION_ID_INVALID));
         }
-        match self.fire_one(round, items, subscription, Call::Modify { settings }) {
-            Ok(()) => Ok(Ok(Revised::new(settings))),
-            Err(halt) => Err(halt),
-        }
+        self.fire_one(round, items, subscription, Call::Modify { settings })?;
+        Ok(Ok(Revised::new(settings)))
     }
 
     /// Republish: the message with this number, if it is kept. At an `Err` nothing is known of what is left.
@@ -173,10 +168,8 @@ impl LiveSubscriptions {
         }
         let bytes = self.kept_bytes(subscription, wanted)?;
         let kept = bytes.is_some();
-        match self.fire_one(round, items, subscription, Call::Republish { kept }) {
-            Ok(()) => Ok(bytes.ok_or(Status::BAD_MESSAGE_NOT_AVAILABLE)),
-            Err(halt) => Err(halt),
-        }
+        self.fire_one(round, items, subscription, Call::Republish { kept })?;
+        Ok(bytes.ok_or(Status::BAD_MESSAGE_NOT_AVAILABLE))
     }
 
     /// The timers that are due, the best subscription first. Takes no memory where none is. At an `Err` nothing is known

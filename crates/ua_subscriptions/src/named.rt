@@ -81,10 +81,8 @@ impl LiveSubscriptions {
         if !self.is_own(session, subscription) {
             return Ok(Status::BAD_SUBSCRIPTION_ID_INVALID);
         }
-        match self.fire_one(round, items, subscription, call) {
-            Ok(()) => Ok(Status::GOOD),
-            Err(halt) => Err(halt),
-        }
+        self.fire_one(round, items, subscription, call)?;
+        Ok(Status::GOOD)
     }
 
     /// It comes to each subscription that is named and is this session's, one after the other. Tells of each whether it

@@ -145,10 +145,7 @@ fn fire_at(
     let Some(subscription) = subscriptions.get_mut(&own.0) else {
         return Ok(());
     };
-    match fire_listed(round, subscription, dues, sessions, askers, items) {
-        Ok(()) => {}
-        Err(halt) => return Err(halt),
-    }
+    fire_listed(round, subscription, dues, sessions, askers, items)?;
     if is_closed(subscription) {
         remove_at(subscriptions, dues, own.0);
     }
