@@ -1,6 +1,7 @@
 //! Whether a database has the two tables, and nothing else.
 
-ghost use Rattle.std.specs.Prelude.{◌≡◌, ◌==◌, length, [], ◌∷◌, true, false, None, Ok, IsTrue, OnOk};
+ghost use Rattle.std.specs.Prelude.{◌≡◌, ◌≢◌, ◌==◌, length, [], ◌∷◌, true, false, None, Ok, IfErr, IsTrue, OnOk};
+ghost use Rattle.value_store.specs.Faults.{IsOfDatabase};
 ghost use Rattle.value_store.specs.Tables.{value_table, history_table, store_schema, plain_column};
 ghost use Rattle.sqlite_value.specs.Keys.{plain};
 ghost use Rattle.sqlite.specs.Held.{state};
@@ -195,6 +196,8 @@ fn has_no_table(schema: &Schema) -> bool
 /// Makes the two tables where the database has none. The answer is whether it has these now, and nothing else: a file of another program, or of another version, is left as it was.
 pub fn prepare<S: Alter>(conn: &mut Connection<S>) -> Result<bool, Fault>
     ensures ready { OnOk result (result ≡ Ok true → (state S.Store conn.new).now.schema ≡ store_schema) }
+    ensures other { result ≡ Ok false → (state S.Store conn.new).now.schema ≢ store_schema }
+    ensures fault { IfErr result IsOfDatabase }
     // Where the tables are there, nothing is done.
     ensures same { (state S.Store conn.old).now.schema ≡ store_schema → (result ≡ Ok true) × (conn.new ≡ conn.old) }
 {
