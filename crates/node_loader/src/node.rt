@@ -438,17 +438,26 @@ fn definition_triple(
     }
 }
 
-// The entry of what was read.
-fn entry_from(
-    alloc: Global,
-    part: Part,
+// A node's id and its class, which are read before the rest.
+#[derive(Drop)]
+struct Head {
     id: NodeId,
+    class: NodeClass,
+}
+
+// What follows them.
+#[derive(Drop)]
+struct Rest {
     names: Names,
     place: Place,
     kind: Kind,
-) -> Result<Entry, AllocError>
-    ensures { IfOk result (λ e. e ≡ entry_from part id names place kind) }
+}
+
+// The entry of what was read.
+fn entry_from(alloc: Global, part: Part, id: NodeId, rest: Rest) -> Result<Entry, AllocError>
+    ensures { IfOk result (λ e. e ≡ entry_from part id rest.names rest.place rest.kind) }
 {
+    let Rest { names, place, kind } = rest;
     let parent = parent_triple(alloc, part, place, &id)?;
     let Kind {
         details,
@@ -475,25 +484,25 @@ fn entry_from(
     })
 }
 
-// What follows the id and the class: first the unknown keys, and then the other keys one by one.
+// What follows the head: first the unknown keys, and then the other keys one by one.
 #[tactic(auto, unfolding(crate::specs::Node::rest_of))]
 fn rest_in(
     alloc: Global,
     setting: &Setting,
     part: Part,
-    id: NodeId,
-    class: NodeClass,
+    head: Head,
     table: &Table,
 ) -> Result<Entry, Cause>
-    requires { id.namespace ≤ setting.now.highest }
-    ensures given { Gives Memory result (rest_of setting.now part id class (table_view table.now)) }
-    ensures refused { IfErr (only (keys_of setting.now.version class) (table_view table.now)) (λ cause. result ≡ Err cause) }
+    requires { head.id.namespace ≤ setting.now.highest }
+    ensures given { Gives Memory result (rest_of setting.now part head.id head.class (table_view table.now)) }
+    ensures refused { IfErr (only (keys_of setting.now.version head.class) (table_view table.now)) (λ cause. result ≡ Err cause) }
 {
+    let Head { id, class } = head;
     known(setting.version, class, table)?;
     let names = names_in(alloc, setting.highest, id.namespace, table)?;
     let place = place_in(alloc, setting.highest, table)?;
     let kind = kind_in(alloc, class, setting, table)?;
-    Ok(entry_from(alloc, part, id, names, place, kind)?)
+    Ok(entry_from(alloc, part, id, Rest { names, place, kind })?)
 }
 
 // A node: its id and its class before the rest.
@@ -504,7 +513,7 @@ fn node_in(alloc: Global, setting: &Setting, part: Part, table: &Table) -> Resul
 {
     let id = id_at(alloc, setting.highest, table, "id")?;
     let class = class_of(required_word(table, "class")?)?;
-    rest_in(alloc, setting, part, id, class, table)
+    rest_in(alloc, setting, part, Head { id, class }, table)
 }
 
 /// One entry of the list.

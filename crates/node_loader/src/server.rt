@@ -126,21 +126,28 @@ fn sizes_in(table: &Table) -> Result<Sizes, Cause>
     })
 }
 
-// The number at a key, or the default, where version 1 has a part of the later range.
+// The range of version 1, and the later one, of which it is a part.
+#[derive(Clone, Copy)]
+struct Widened {
+    first: NumberRange,
+    later: NumberRange,
+}
+
+// The number at a key, or the default.
 fn widened_at(
     version: Version,
     table: &Table,
     key: &str,
     fallback: u64,
-    first: NumberRange,
-    later: NumberRange,
+    range: Widened,
 ) -> Result<u64, Cause>
-    requires part { IsPartOf first later }
-    requires fallback { IsIn first fallback }
-    ensures given { result ≡ number_at key.now fallback (range_of version first later) (table_view table.now) }
-    ensures range { IfOk result (λ n. IsIn later n) }
+    requires part { IsPartOf range.first range.later }
+    requires fallback { IsIn range.first fallback }
+    ensures given { result ≡ number_at key.now fallback (range_of version range.first range.later) (table_view table.now) }
+    ensures range { IfOk result (λ n. IsIn range.later n) }
 {
-    number_at(table, key, fallback, version.range(first, later))
+    let range = version.range(range.first, range.later);
+    number_at(table, key, fallback, range)
 }
 
 // How much the server holds of each thing.
@@ -163,16 +170,20 @@ fn tables_in(version: Version, table: &Table) -> Result<Tables, Cause>
         table,
         "connections",
         100,
-        FIRST_CONNECTIONS,
-        NumberRange::CONNECTIONS,
+        Widened {
+            first: FIRST_CONNECTIONS,
+            later: NumberRange::CONNECTIONS,
+        },
     )? as u32;
     let sessions = widened_at(
         version,
         table,
         "sessions",
         100,
-        FIRST_SESSIONS,
-        NumberRange::SESSIONS,
+        Widened {
+            first: FIRST_SESSIONS,
+            later: NumberRange::SESSIONS,
+        },
     )? as u32;
     let subscriptions = number_at(table, "subscriptions", 100, NumberRange::SUBSCRIPTIONS)? as u32;
     let items = number_at(table, "items", 1000, NumberRange::ITEMS)? as u32;
@@ -181,8 +192,10 @@ fn tables_in(version: Version, table: &Table) -> Result<Tables, Cause>
         table,
         "queue",
         100,
-        FIRST_QUEUE,
-        NumberRange::QUEUE,
+        Widened {
+            first: FIRST_QUEUE,
+            later: NumberRange::QUEUE,
+        },
     )? as u32;
     Ok(Tables {
         connections,
@@ -241,8 +254,10 @@ fn pages_in(version: Version, table: &Table) -> Result<Pages, Cause>
         table,
         "history",
         10000,
-        FIRST_HISTORY,
-        NumberRange::HISTORY,
+        Widened {
+            first: FIRST_HISTORY,
+            later: NumberRange::HISTORY,
+        },
     )? as u32;
     Ok(Pages {
         references,

@@ -22,6 +22,7 @@ use crate::kinds::{Kind, Mode, trigger_of};
 use crate::links::{Linked, Links, link_status, unlink_all};
 use crate::preparing::Prepared;
 use crate::releases::Releases;
+use crate::sampled::Sampled;
 use std::alloc::{AllocError, Global};
 use std::collections::BTreeSet;
 use std::marker::Model;
@@ -222,25 +223,23 @@ impl Items {
     #[tactic(auto, using(crate::proofs::MadeItems::enabled_may_hold, crate::proofs::MadeItems::none_is_empty), unfolding(crate::specs::Items::create_one))]
     fn create_one(
         &mut self,
-        space: &Space,
-        clock: Moment,
-        subscription: SubscriptionId,
+        sampled: &Sampled<'_>,
         timestamps: Timestamps,
         request: &MonitoredItemCreateRequestView<'_>,
     ) -> Result<MonitoredItemCreateResult, AllocError>
-        ensures result { IfOk result (λ made. made ≡ (create_one space.now.nodes clock subscription timestamps self.old request.now).result) }
-        ensures ok { OnOk result (self.new ≡ (create_one space.now.nodes clock subscription timestamps self.old request.now).state) }
+        ensures result { IfOk result (λ made. made ≡ (create_one sampled.now.space.now.nodes sampled.now.clock sampled.now.subscription timestamps self.old request.now).result) }
+        ensures ok { OnOk result (self.new ≡ (create_one sampled.now.space.now.nodes sampled.now.clock sampled.now.subscription timestamps self.old request.now).state) }
         ensures back { OnOk result (CanBeUndone self.old self.new) }
         ensures err { OnErr result (self.new ≡ self.old) }
     {
-        let kind = match self.create_judged(space, subscription, request) {
+        let kind = match self.create_judged(sampled.space, sampled.subscription, request) {
             Ok(kind) => kind,
             Err(status) => return Ok(create_refused(status)),
         };
         let size = revised_size(self.longest, request.requested_parameters.queue_size);
-        let mut item = self.new_item(subscription, timestamps, request, kind)?;
+        let mut item = self.new_item(sampled.subscription, timestamps, request, kind)?;
         if item.mode.is_enabled() {
-            item.queue_reading(self.alloc, space, clock)?;
+            item.queue_reading(self.alloc, sampled.space, sampled.clock)?;
         }
         self.table.add(self.alloc, item)?;
         Ok(MonitoredItemCreateResult {
@@ -255,20 +254,18 @@ impl Items {
     // Makes the items of a request. At an `Err` some were made.
     fn create_all<'a>(
         &mut self,
-        space: &Space,
-        clock: Moment,
-        subscription: SubscriptionId,
+        sampled: &Sampled<'_>,
         timestamps: Timestamps,
         requests: ArrayView<'a, MonitoredItemCreateRequestView<'a>>,
     ) -> Result<Vec<MonitoredItemCreateResult>, AllocError>
-        ensures results { IfOk result (λ results. results.items ≡ (all_served (create_one space.now.nodes clock subscription timestamps) self.old (or_none requests.entry)).results) }
-        ensures ok { OnOk result (self.new ≡ (all_served (create_one space.now.nodes clock subscription timestamps) self.old (or_none requests.entry)).state) }
+        ensures results { IfOk result (λ results. results.items ≡ (all_served (create_one sampled.now.space.now.nodes sampled.now.clock sampled.now.subscription timestamps) self.old (or_none requests.entry)).results) }
+        ensures ok { OnOk result (self.new ≡ (all_served (create_one sampled.now.space.now.nodes sampled.now.clock sampled.now.subscription timestamps) self.old (or_none requests.entry)).state) }
         ensures err { OnErr result (CanBeUndone self.old self.new) }
         ensures memory { or_none requests.entry ≡ [] → IsOk result }
     {
         let mut results = Vec::with_capacity(self.alloc, requests.len())?;
         for request in requests {
-            let made = self.create_one(space, clock, subscription, timestamps, &request)?;
+            let made = self.create_one(sampled, timestamps, &request)?;
             results.push_reserved(made);
         }
         Ok(results)
@@ -304,19 +301,17 @@ impl Items {
     /// refused the node's id is copied, and nothing else of the request.
     pub fn create<'a>(
         &mut self,
-        space: &Space,
-        clock: Moment,
-        subscription: SubscriptionId,
+        sampled: &Sampled<'_>,
         timestamps: Timestamps,
         requests: ArrayView<'a, MonitoredItemCreateRequestView<'a>>,
     ) -> Result<Vec<MonitoredItemCreateResult>, AllocError>
-        ensures results { IfOk result (λ results. results.items ≡ (all_served (create_one space.now.nodes clock subscription timestamps) self.old (or_none requests.entry)).results) }
-        ensures ok { OnOk result (self.new ≡ (all_served (create_one space.now.nodes clock subscription timestamps) self.old (or_none requests.entry)).state) }
+        ensures results { IfOk result (λ results. results.items ≡ (all_served (create_one sampled.now.space.now.nodes sampled.now.clock sampled.now.subscription timestamps) self.old (or_none requests.entry)).results) }
+        ensures ok { OnOk result (self.new ≡ (all_served (create_one sampled.now.space.now.nodes sampled.now.clock sampled.now.subscription timestamps) self.old (or_none requests.entry)).state) }
         ensures err { OnErr result (self.new ≡ self.old) }
         ensures memory { or_none requests.entry ≡ [] → IsOk result }
     {
         let made = self.table.made();
-        match self.create_all(space, clock, subscription, timestamps, requests) {
+        match self.create_all(sampled, timestamps, requests) {
             Ok(results) => Ok(results),
             Err(error) => {
                 let last = self.table.made();
@@ -405,23 +400,21 @@ impl Items {
     // An entry of SetMonitoringMode, with what the item queues if this enables it, and what that releases.
     fn prepared(
         &self,
-        space: &Space,
-        clock: Moment,
-        subscription: SubscriptionId,
+        sampled: &Sampled<'_>,
         mode: Mode,
         number: u32,
         releases: &mut Releases,
     ) -> Result<Prepared, AllocError>
         ensures number { IfOk result (λ prepared. prepared.number ≡ number) }
-        ensures releases { OnOk result (releases.new ≡ with_releases releases.old (mode_releases mode (own_item self.now subscription number))) }
-        ensures ready { IfOk result (λ prepared. IsReady space.now.nodes clock mode (own_item self.now subscription number) prepared.first) }
+        ensures releases { OnOk result (releases.new ≡ with_releases releases.old (mode_releases mode (own_item self.now sampled.now.subscription number))) }
+        ensures ready { IfOk result (λ prepared. IsReady sampled.now.space.now.nodes sampled.now.clock mode (own_item self.now sampled.now.subscription number) prepared.first) }
     {
-        let first = match self.own_item(subscription, number) {
+        let first = match self.own_item(sampled.subscription, number) {
             None => None,
             Some(item) => {
                 if mode.is_enabled() && !item.mode.is_enabled() {
                     item.add_releases(releases)?;
-                    Some(item.first_sample(self.alloc, space, clock)?)
+                    Some(item.first_sample(self.alloc, sampled.space, sampled.clock)?)
                 } else {
                     None
                 }
@@ -433,21 +426,19 @@ impl Items {
     // The entries of SetMonitoringMode, each with what its item wants, and what they release.
     fn prepare_all(
         &self,
-        space: &Space,
-        clock: Moment,
-        subscription: SubscriptionId,
+        sampled: &Sampled<'_>,
         mode: Mode,
         numbers: ArrayView<'_, u32>,
         releases: &mut Releases,
     ) -> Result<Vec<Prepared>, AllocError>
         ensures numbers { IfOk result (λ entries. map (λ e. e.number) entries.items ≡ or_none numbers.entry) }
-        ensures releases { OnOk result (releases.new ≡ with_releases releases.old (modes_release self.now subscription mode (or_none numbers.entry))) }
-        ensures ready { IfOk result (λ entries. AreReady space.now.nodes clock subscription mode self.now entries.items) }
+        ensures releases { OnOk result (releases.new ≡ with_releases releases.old (modes_release self.now sampled.now.subscription mode (or_none numbers.entry))) }
+        ensures ready { IfOk result (λ entries. AreReady sampled.now.space.now.nodes sampled.now.clock sampled.now.subscription mode self.now entries.items) }
         ensures memory { or_none numbers.entry ≡ [] → IsOk result }
     {
         let mut entries = Vec::with_capacity(self.alloc, numbers.len())?;
         for number in numbers {
-            let prepared = self.prepared(space, clock, subscription, mode, number, releases)?;
+            let prepared = self.prepared(sampled, mode, number, releases)?;
             entries.push(prepared)?;
         }
         Ok(entries)
@@ -470,24 +461,22 @@ impl Items {
     // At an `Err` the items are what they were.
     fn mode_all(
         &mut self,
-        space: &Space,
-        clock: Moment,
-        subscription: SubscriptionId,
+        sampled: &Sampled<'_>,
         mode: Mode,
         numbers: ArrayView<'_, u32>,
         releases: &mut Releases,
     ) -> Result<Vec<Status>, AllocError>
-        ensures results { IfOk result (λ results. results.items ≡ (all_served (mode_one space.now.nodes clock subscription mode) self.old (or_none numbers.entry)).results) }
-        ensures ok { OnOk result (self.new ≡ (all_served (mode_one space.now.nodes clock subscription mode) self.old (or_none numbers.entry)).state) }
-        ensures releases { OnOk result (releases.new ≡ with_releases releases.old (modes_release self.old subscription mode (or_none numbers.entry))) }
+        ensures results { IfOk result (λ results. results.items ≡ (all_served (mode_one sampled.now.space.now.nodes sampled.now.clock sampled.now.subscription mode) self.old (or_none numbers.entry)).results) }
+        ensures ok { OnOk result (self.new ≡ (all_served (mode_one sampled.now.space.now.nodes sampled.now.clock sampled.now.subscription mode) self.old (or_none numbers.entry)).state) }
+        ensures releases { OnOk result (releases.new ≡ with_releases releases.old (modes_release self.old sampled.now.subscription mode (or_none numbers.entry))) }
         ensures err { OnErr result (self.new ≡ self.old) }
         ensures memory { or_none numbers.entry ≡ [] → IsOk result }
     {
         let count = numbers.len();
-        let entries = self.prepare_all(space, clock, subscription, mode, numbers, releases)?;
+        let entries = self.prepare_all(sampled, mode, numbers, releases)?;
         let mut results = Vec::with_capacity(self.alloc, count)?;
         for prepared in entries {
-            results.push_reserved(self.mode_one(subscription, mode, prepared));
+            results.push_reserved(self.mode_one(sampled.subscription, mode, prepared));
         }
         Ok(results)
     }
@@ -501,19 +490,17 @@ impl Items {
     #[tactic(auto, using(crate::proofs::Once::once))]
     pub fn set_mode(
         &mut self,
-        space: &Space,
-        clock: Moment,
-        subscription: SubscriptionId,
+        sampled: &Sampled<'_>,
         mode: Mode,
         numbers: ArrayView<'_, u32>,
     ) -> Result<Vec<Status>, AllocError>
-        ensures results { IfOk result (λ results. results.items ≡ (modes_set space.now.nodes clock subscription mode self.old (or_none numbers.entry)).results) }
-        ensures ok { OnOk result (self.new ≡ (modes_set space.now.nodes clock subscription mode self.old (or_none numbers.entry)).state) }
+        ensures results { IfOk result (λ results. results.items ≡ (modes_set sampled.now.space.now.nodes sampled.now.clock sampled.now.subscription mode self.old (or_none numbers.entry)).results) }
+        ensures ok { OnOk result (self.new ≡ (modes_set sampled.now.space.now.nodes sampled.now.clock sampled.now.subscription mode self.old (or_none numbers.entry)).state) }
         ensures err { OnErr result (self.new ≡ self.old) }
         ensures memory { or_none numbers.entry ≡ [] → IsOk result }
     {
         let mut releases = Releases::new(self.alloc);
-        let results = self.mode_all(space, clock, subscription, mode, numbers, &mut releases)?;
+        let results = self.mode_all(sampled, mode, numbers, &mut releases)?;
         self.table.release(&releases);
         Ok(results)
     }

@@ -12,7 +12,7 @@
 //! ```
 //!
 //! ```text
-//! let results = items.create(&space, clock, subscription, timestamps, requests)?;
+//! let results = items.create(&sampled, timestamps, requests)?;
 //! items.show(&node_id, &value)?;                         // each value that is written
 //! if items.available(subscription) {
 //!     let mut message = DataChangeMessage::new(alloc, number, clock)?;
@@ -43,6 +43,7 @@ mod links;
 mod notes;
 mod preparing;
 mod releases;
+mod sampled;
 mod sampling;
 mod taking;
 mod tally;
@@ -51,3 +52,4 @@ pub use item::Item;
 pub use items::Items;
 pub use kinds::{Mode, Trigger};
 pub use links::{Linked, Links};
+pub use sampled::Sampled;

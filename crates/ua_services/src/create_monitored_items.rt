@@ -8,6 +8,7 @@ use crate::operations::operations;
 use crate::services::Services;
 use server_messages::Setting;
 use ua_messages::{MessageBody, ResponseHeader, results_body, type_ids};
+use ua_monitored_items::Sampled;
 use ua_read_write::Timestamps;
 use ua_subscription_messages::{CreateMonitoredItemsRequestView, SubscriptionId};
 use ua_types::{Refusal, Status};
@@ -40,12 +41,13 @@ impl<'a> ItemService<'a> for CreateMonitoredItems {
         let Some(timestamps) = Timestamps::chosen(request.timestamps_to_return) else {
             return Err(Refusal::Service(Status::BAD_TIMESTAMPS_TO_RETURN_INVALID));
         };
-        let subscription = SubscriptionId(request.subscription_id);
         let requests = operations(&setting.config, request.items_to_create)?;
-        let space = &services.space;
-        let results = services
-            .items
-            .create(space, setting.clock, subscription, timestamps, requests)?;
+        let sampled = Sampled {
+            subscription: SubscriptionId(request.subscription_id),
+            space: &services.space,
+            clock: setting.clock,
+        };
+        let results = services.items.create(&sampled, timestamps, requests)?;
         let header = ResponseHeader::good(caller.origin.handle, setting.clock);
         let type_id = type_ids::CREATE_MONITORED_ITEMS_RESPONSE;
         Ok(results_body(services.allocator(), type_id, &header, results.as_slice())?)

@@ -9,7 +9,7 @@ use crate::services::Services;
 use crate::status_results::statuses_body;
 use server_messages::Setting;
 use ua_messages::{MessageBody, type_ids};
-use ua_monitored_items::Mode;
+use ua_monitored_items::{Mode, Sampled};
 use ua_subscription_messages::{SetMonitoringModeRequestView, SubscriptionId};
 use ua_types::{Refusal, Status};
 
@@ -42,11 +42,12 @@ impl<'a> ItemService<'a> for SetMonitoringMode {
         let Some(mode) = Mode::numbered(request.monitoring_mode) else {
             return Err(Refusal::Service(Status::BAD_MONITORING_MODE_INVALID));
         };
-        let subscription = SubscriptionId(request.subscription_id);
-        let space = &services.space;
-        let statuses = services
-            .items
-            .set_mode(space, setting.clock, subscription, mode, numbers)?;
+        let sampled = Sampled {
+            subscription: SubscriptionId(request.subscription_id),
+            space: &services.space,
+            clock: setting.clock,
+        };
+        let statuses = services.items.set_mode(&sampled, mode, numbers)?;
         let type_id = type_ids::SET_MONITORING_MODE_RESPONSE;
         Ok(statuses_body(
             services.allocator(),

@@ -1,6 +1,7 @@
 //! Subscriptions that are made, changed, asked for a message again, or whose timer comes.
 
 ghost use Rattle.std.specs.Prelude.{◌≡◌, false, length, option_map, IfOk, IsOk};
+ghost use Rattle.ua_subscriptions.specs.declared.call.Call.TheVariants.{Create};
 ghost use Rattle.ua_subscriptions.specs.Making.{revised_of, refused_one, added, modified, republished, timed, kept_at};
 ghost use Rattle.ua_subscriptions.specs.Named.{Comes, is_own as is_own_spec};
 ghost use Rattle.ua_subscriptions.specs.Tables.{stage, Meets, part_at};
@@ -10,6 +11,7 @@ use crate::asking::fire_of;
 use crate::call::Call;
 use crate::firing::fire;
 use crate::listing::insert_at;
+use crate::named::Named;
 use crate::round::Round;
 use crate::session_part::SessionSubscriptions;
 use crate::settings::{Settings, revised_keep_alive_count, revised_lifetime_count};
@@ -45,6 +47,29 @@ impl Revised {
     }
 }
 
+/// What is asked of a subscription that is to begin.
+#[derive(Clone, Copy, Debug)]
+pub(crate) struct Creation {
+    /// Its counts, its messages' size and its priority.
+    pub settings: Settings,
+    /// Whether its notifications are on.
+    pub enabled: bool,
+}
+
+impl Creation {
+    // What comes to it.
+    fn call(self, full: bool) -> Call
+        ensures { result ≡ Create full self.settings self.enabled }
+    {
+        let Creation { settings, enabled } = self;
+        Call::Create {
+            full,
+            settings,
+            enabled,
+        }
+    }
+}
+
 impl LiveSubscriptions {
     /// How many subscriptions live.
     pub(crate) fn len(&self) -> usize
@@ -71,18 +96,13 @@ impl LiveSubscriptions {
         round: &mut Round,
         items: &mut Items,
         session: u32,
-        settings: Settings,
-        enabled: bool,
+        creation: Creation,
     ) -> Result<(), Halt>
-        ensures { Meets result (stage round.new self.now items.new) (refused_one session settings enabled (stage round.old self.now items.old)) }
+        ensures { Meets result (stage round.new self.now items.new) (refused_one session creation.settings creation.enabled (stage round.old self.now items.old)) }
     {
         let alloc = items.allocator();
         round.own = SubscriptionId(0);
-        round.call = Call::Create {
-            full: true,
-            settings,
-            enabled,
-        };
+        round.call = creation.call(true);
         let mut subscription = Subscription::unborn(alloc, session);
         fire(
             round,
@@ -98,20 +118,18 @@ impl LiveSubscriptions {
         &mut self,
         round: &mut Round,
         items: &mut Items,
-        session: u32,
-        number: SubscriptionId,
-        settings: Settings,
-        enabled: bool,
+        named: Named,
+        creation: Creation,
     ) -> Result<(), Halt>
-        ensures { Meets result (stage round.new self.new items.new) (added session number settings enabled (stage round.old self.old items.old)) }
+        ensures { Meets result (stage round.new self.new items.new) (added named.session named.subscription creation.settings creation.enabled (stage round.old self.old items.old)) }
     {
+        let Named {
+            session,
+            subscription: number,
+        } = named;
         let alloc = items.allocator();
         round.own = number;
-        round.call = Call::Create {
-            full: false,
-            settings,
-            enabled,
-        };
+        round.call = creation.call(false);
         let mut part = match self.sessions.remove(&session) {
             Some(part) => part,
             None => SessionSubscriptions::new(alloc),
@@ -136,17 +154,17 @@ impl LiveSubscriptions {
         &mut self,
         round: &mut Round,
         items: &mut Items,
-        session: u32,
-        subscription: SubscriptionId,
+        named: Named,
         settings: Settings,
     ) -> Result<Result<Revised, Status>, Halt>
-        ensures comes { Comes result (stage round.new self.new items.new) (modified session subscription settings (stage round.old self.old items.old)) }
-        ensures memory { is_own_spec self.old session subscription ≡ false → IsOk result }
+        ensures comes { Comes result (stage round.new self.new items.new) (modified named.session named.subscription settings (stage round.old self.old items.old)) }
+        ensures memory { is_own_spec self.old named.session named.subscription ≡ false → IsOk result }
     {
-        if !self.is_own(session, subscription) {
+        if !self.is_own(named.session, named.subscription) {
             return Ok(Err(Status::BAD_SUBSCRIPTION_ID_INVALID));
         }
-        self.fire_one(round, items, subscription, Call::Modify { settings })?;
+        let call = Call::Modify { settings };
+        self.fire_one(round, items, named.subscription, call)?;
         Ok(Ok(Revised::new(settings)))
     }
 
@@ -156,19 +174,19 @@ impl LiveSubscriptions {
         &mut self,
         round: &mut Round,
         items: &mut Items,
-        session: u32,
-        subscription: SubscriptionId,
+        named: Named,
         wanted: u32,
     ) -> Result<Result<Bytes, Status>, Halt>
-        ensures comes { Comes result (stage round.new self.new items.new) (republished session subscription wanted (stage round.old self.old items.old)) }
-        ensures memory { is_own_spec self.old session subscription ≡ false → IsOk result }
+        ensures comes { Comes result (stage round.new self.new items.new) (republished named.session named.subscription wanted (stage round.old self.old items.old)) }
+        ensures memory { is_own_spec self.old named.session named.subscription ≡ false → IsOk result }
     {
-        if !self.is_own(session, subscription) {
+        if !self.is_own(named.session, named.subscription) {
             return Ok(Err(Status::BAD_SUBSCRIPTION_ID_INVALID));
         }
-        let bytes = self.kept_bytes(subscription, wanted)?;
+        let bytes = self.kept_bytes(named.subscription, wanted)?;
         let kept = bytes.is_some();
-        self.fire_one(round, items, subscription, Call::Republish { kept })?;
+        let call = Call::Republish { kept };
+        self.fire_one(round, items, named.subscription, call)?;
         Ok(bytes.ok_or(Status::BAD_MESSAGE_NOT_AVAILABLE))
     }
 

@@ -58,6 +58,13 @@ pub(crate) fn is_own(
     }
 }
 
+/// A subscription that a request names, and the session of the request.
+#[derive(Clone, Copy, Debug)]
+pub(crate) struct Named {
+    pub session: u32,
+    pub subscription: SubscriptionId,
+}
+
 impl LiveSubscriptions {
     /// Whether this is the number of a live subscription of this session.
     pub(crate) fn is_own(&self, session: u32, subscription: SubscriptionId) -> bool
@@ -72,16 +79,15 @@ impl LiveSubscriptions {
         &mut self,
         round: &mut Round,
         items: &mut Items,
-        session: u32,
-        subscription: SubscriptionId,
+        named: Named,
         call: Call,
     ) -> Result<Status, Halt>
-        ensures { Comes result (stage round.new self.new items.new) (own_met session call (stage round.old self.old items.old) subscription) }
+        ensures { Comes result (stage round.new self.new items.new) (own_met named.session call (stage round.old self.old items.old) named.subscription) }
     {
-        if !self.is_own(session, subscription) {
+        if !self.is_own(named.session, named.subscription) {
             return Ok(Status::BAD_SUBSCRIPTION_ID_INVALID);
         }
-        self.fire_one(round, items, subscription, call)?;
+        self.fire_one(round, items, named.subscription, call)?;
         Ok(Status::GOOD)
     }
 
@@ -99,7 +105,12 @@ impl LiveSubscriptions {
     {
         let mut results = Listed::new(items.allocator());
         for number in numbers {
-            match self.fire_own(round, items, session, SubscriptionId(number), call) {
+            let subscription = SubscriptionId(number);
+            let named = Named {
+                session,
+                subscription,
+            };
+            match self.fire_own(round, items, named, call) {
                 Ok(status) => results.push(status)?,
                 Err(halt) => return Err(halt),
             }

@@ -15,7 +15,7 @@ ghost use Rattle.ua_views.specs.Views.{or_none};
 
 use crate::answered::Answered;
 use crate::call::Call;
-use crate::making::Revised;
+use crate::making::{Creation, Revised};
 use crate::publish_call::PublishCall;
 use crate::requester::Requester;
 use crate::round::Round;
@@ -159,8 +159,9 @@ impl Subscriptions {
         ensures { Serves result self.old self.new items.new (refused requester.session settings enabled self.old (stage_of self.old items.old requester.clock)) }
     {
         let mut round = self.begin(items, requester.clock)?;
+        let creation = Creation { settings, enabled };
         let table = &self.table;
-        match table.refuse(&mut round, items, requester.session, settings, enabled) {
+        match table.refuse(&mut round, items, requester.session, creation) {
             Ok(()) => self.settle(round, Ok(Err(Status::BAD_TOO_MANY_SUBSCRIPTIONS))),
             Err(halt) => self.settle(round, Err(halt)),
         }
@@ -181,9 +182,9 @@ impl Subscriptions {
         let mut round = self.begin(items, requester.clock)?;
         let number = self.made + 1;
         self.made = number;
-        let table = &mut self.table;
-        let own = SubscriptionId(number);
-        match table.add(&mut round, items, requester.session, own, settings, enabled) {
+        let named = requester.naming(SubscriptionId(number));
+        let creation = Creation { settings, enabled };
+        match self.table.add(&mut round, items, named, creation) {
             Ok(()) => {
                 let revised = Revised::new(settings);
                 self.settle(round, Ok(Ok(Created { number, revised })))
@@ -228,13 +229,8 @@ impl Subscriptions {
         ensures memory { self.old.halted ≡ None → is_own_spec self.old.table requester.session subscription ≡ false → IsOk result }
     {
         let mut round = self.begin(items, requester.clock)?;
-        let answer = self.table.modify(
-            &mut round,
-            items,
-            requester.session,
-            subscription,
-            settings,
-        );
+        let named = requester.naming(subscription);
+        let answer = self.table.modify(&mut round, items, named, settings);
         self.settle(round, answer)
     }
 
@@ -321,9 +317,8 @@ impl Subscriptions {
         ensures memory { self.old.halted ≡ None → is_own_spec self.old.table requester.session subscription ≡ false → IsOk result }
     {
         let mut round = self.begin(items, requester.clock)?;
-        let answer = self
-            .table
-            .republish(&mut round, items, requester.session, subscription, wanted);
+        let named = requester.naming(subscription);
+        let answer = self.table.republish(&mut round, items, named, wanted);
         self.settle(round, answer)
     }
 

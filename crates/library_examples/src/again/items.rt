@@ -9,7 +9,7 @@ use std::{fs, io};
 use ua_binary::{Cursor, Wire};
 use ua_messages::structure;
 use ua_messages::type_ids::DATA_CHANGE_NOTIFICATION;
-use ua_monitored_items::Items;
+use ua_monitored_items::{Items, Sampled};
 use ua_read_write::{Change, Timestamps};
 use ua_space::Space;
 use ua_subscription_messages::{
@@ -43,13 +43,14 @@ fn create(
     let bytes = bytes_of(alloc, CREATED)?;
     let mut cursor = Cursor::new(bytes.as_slice());
     match ArrayView::<MonitoredItemCreateRequestView<'_>>::view(&mut cursor) {
-        Ok(requests) => Ok(items.create(
-            space,
-            Moment(0),
-            SUBSCRIPTION,
-            Timestamps::Both,
-            requests,
-        )),
+        Ok(requests) => {
+            let sampled = Sampled {
+                subscription: SUBSCRIPTION,
+                space,
+                clock: Moment(0),
+            };
+            Ok(items.create(&sampled, Timestamps::Both, requests))
+        }
         Err(_) => Err(failed()),
     }
 }

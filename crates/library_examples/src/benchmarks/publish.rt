@@ -130,7 +130,7 @@ fn tell_all(rt: &HostRuntime, server: &mut Server, rounds: u32) -> io::Result<To
     let items = items(alloc)?;
     ask(server, alloc, 5, &CREATE_ITEMS, items.as_slice())?;
     ask(server, alloc, 6, &PUBLISH, NOTHING)?;
-    fire(server, alloc, 1)?;
+    fire(server, 1)?;
     let mut told = Told {
         made: 0,
         again: 0,

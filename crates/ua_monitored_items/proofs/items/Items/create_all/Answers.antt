@@ -7,7 +7,7 @@ use Rattle.ua_monitored_items.proofs.items.Items.create_all.Goals as goal
 
 pub loop-request-preserved : goal.loop-request-preserved
 loop-request-preserved c =
-    let serve = create_one c.args.space.now.nodes c.args.clock c.args.subscription c.args.timestamps in
+    let serve = create_one c.args.sampled.now.space.now.nodes c.args.sampled.now.clock c.args.sampled.now.subscription c.args.timestamps in
     let front = c.loop-request.yielded in
     let x = c.in-Some.request in
     let rest = or_none c.next.new.self in

@@ -10,10 +10,10 @@ use Rattle.ua_monitored_items.proofs.items.Items.mode_all.Goals as goal
 
 pub loop-prepared-preserved : goal.loop-prepared-preserved
 loop-prepared-preserved c =
-    let nodes = c.args.space.now.nodes in
-    let clock = c.args.clock in
+    let nodes = c.args.sampled.now.space.now.nodes in
+    let clock = c.args.sampled.now.clock in
     let mode = c.args.mode in
-    let subscription = c.args.subscription in
+    let subscription = c.args.sampled.now.subscription in
     let serve = mode_one nodes clock subscription mode in
     let number = λ (p : Prepared). p.number in
     let front = c.loop-prepared.yielded in

@@ -18,7 +18,7 @@ loop-number-preserved c =
     let e = c.in_ok-prepared.prepared in
     let done = c.loop-number.yielded in
     let n = c.in-Some.number in
-    let nodes = c.args.space.now.nodes in
+    let nodes = c.args.sampled.now.space.now.nodes in
     let number = λ (p : Prepared). p.number in
     record {
       numbers =
@@ -28,14 +28,14 @@ loop-number-preserved c =
           ∙ ap (λ (n : ℕ). done ++ n ∷ []) c.in_ok-prepared.ensures.number;
       releases =
           let before = c.args.releases.now in
-          let one = mode_releases c.args.mode (own_item c.args.self.now c.args.subscription n) in
+          let one = mode_releases c.args.mode (own_item c.args.self.now c.args.sampled.now.subscription n) in
           c.in_ok-prepared.ensures.releases
           ∙ ap (λ (rs : List Release). with_releases rs one) c.loop-number.invariant.releases
-          ∙ sym (fold-append (insert_key release_cmp) before (modes_release c.args.self.now c.args.subscription c.args.mode done) one)
-          ∙ ap (with_releases before) (sym (modes_more c.args.self.now c.args.subscription c.args.mode done n));
+          ∙ sym (fold-append (insert_key release_cmp) before (modes_release c.args.self.now c.args.sampled.now.subscription c.args.mode done) one)
+          ∙ ap (with_releases before) (sym (modes_more c.args.self.now c.args.sampled.now.subscription c.args.mode done n));
       ready =
-          subst (AreReady nodes c.args.clock c.args.subscription c.args.mode c.args.self.now) (sym c.in_ok-push.ensures.items)
-          (ready_more nodes c.args.clock c.args.mode c.args.subscription c.args.self.now es e c.loop-number.invariant.ready
-          (subst (λ (n : ℕ). IsReady nodes c.args.clock c.args.mode (own_item c.args.self.now c.args.subscription n) e.first) (sym c.in_ok-prepared.ensures.number) c.in_ok-prepared.ensures.ready));
+          subst (AreReady nodes c.args.sampled.now.clock c.args.sampled.now.subscription c.args.mode c.args.self.now) (sym c.in_ok-push.ensures.items)
+          (ready_more nodes c.args.sampled.now.clock c.args.mode c.args.sampled.now.subscription c.args.self.now es e c.loop-number.invariant.ready
+          (subst (λ (n : ℕ). IsReady nodes c.args.sampled.now.clock c.args.mode (own_item c.args.self.now c.args.sampled.now.subscription n) e.first) (sym c.in_ok-prepared.ensures.number) c.in_ok-prepared.ensures.ready));
       left = append_assoc done (n ∷ []) (or_none c.next.new.self) ∙ ap (λ (list : List ℕ). done ++ list) (sym c.in-Some.ensures.steps) ∙ c.loop-number.invariant.left;
     }

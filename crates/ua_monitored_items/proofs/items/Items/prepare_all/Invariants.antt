@@ -9,7 +9,7 @@ use Rattle.ua_monitored_items.proofs.items.Items.prepare_all.Given as goal
 abbrev pub invariant-loop-number : goal.invariant-loop-number
 invariant-loop-number l = record {
   numbers : map (λ (e : Prepared). e.number) l.entries.items ≡ l.yielded;
-  releases : l.releases ≡ with_releases l.fn.releases (modes_release l.self l.subscription l.mode l.yielded);
-  ready : AreReady l.space.nodes l.clock l.subscription l.mode l.self l.entries.items;
+  releases : l.releases ≡ with_releases l.fn.releases (modes_release l.self l.sampled.subscription l.mode l.yielded);
+  ready : AreReady l.sampled.space.now.nodes l.sampled.clock l.sampled.subscription l.mode l.self l.entries.items;
   left : l.yielded ++ or_none l.number-iterator ≡ or_none l.fn.numbers;
 }
