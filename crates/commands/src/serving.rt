@@ -21,7 +21,7 @@ use crate::watching::{Tracing, Visitors, Visits};
 use command_line::ServeOptions;
 use server_core::Server;
 use server_messages::{Keeper, KeptValues, NoKeeper, StoreFault};
-use socket_server::{KeptServer, Limits, Observer, Serve, ServeFault, Turns};
+use socket_server::{KeptServer, Observer, PeerLimits, Serve, ServeFault, Turns};
 use std::alloc::{AllocError, Global};
 use std::io::Write;
 use std::net::{IpAddr, Net, SocketAddr};
@@ -297,7 +297,7 @@ fn serve_on<R: Files + Net + RandomSource + Clock + Wait, K: Keeper, O: Write, E
     let Ok(line) = listening_line(alloc, port) else {
         return no_memory(errors);
     };
-    let limits = Limits {
+    let limits = PeerLimits {
         idle,
         per_address: options.per_address,
     };

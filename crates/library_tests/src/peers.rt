@@ -4,7 +4,7 @@ use crate::holding::holds;
 use bytes::Bytes;
 use collections::ShortList;
 use server_messages::Out;
-use socket_peers::{End, Heard, Limits, Peer, Peers, Readiness, Socket};
+use socket_peers::{End, Heard, Peer, PeerLimits, Peers, Readiness, Socket};
 use std::alloc::Global;
 use std::io;
 use std::io::ErrorKind;
@@ -84,7 +84,7 @@ fn several_frames_in_one_write(rt: HostRuntime) -> Result<(), Fail> {
 
 // Two sockets, the first of which is owed a byte and then the end.
 fn two_peers(alloc: Global) -> Result<Peers<Slow>, Fail> {
-    let mut peers = Peers::new(alloc, Limits::NONE);
+    let mut peers = Peers::new(alloc, PeerLimits::NONE);
     peers.admit(alloc, 1, 0, slow_stream(alloc, 9))?;
     peers.admit(alloc, 2, 0, slow_stream(alloc, 9))?;
     let mut outs = ShortList::new(alloc);
@@ -117,7 +117,7 @@ fn each_on_its_own_connection(rt: HostRuntime) -> Result<(), Fail> {
 
 // A socket whose input is at its end, which is owed a byte and takes none yet.
 fn ended(alloc: Global) -> Result<Peers<Slow>, Fail> {
-    let mut peers = Peers::new(alloc, Limits::NONE);
+    let mut peers = Peers::new(alloc, PeerLimits::NONE);
     let mut stream = slow_stream(alloc, 0);
     stream.is_at_end = true;
     peers.admit(alloc, 1, 0, stream)?;
@@ -147,7 +147,7 @@ const ENDING: Readiness = Readiness {
 
 // A socket that has sent five bytes and hung up at once.
 fn hung_up(alloc: Global) -> Result<Peers<Slow>, Fail> {
-    let mut peers = Peers::new(alloc, Limits::NONE);
+    let mut peers = Peers::new(alloc, PeerLimits::NONE);
     let mut stream = slow_stream(alloc, 0);
     stream.given = 5;
     stream.is_at_end = true;
@@ -200,7 +200,7 @@ fn owe(alloc: Global, peers: &mut Peers<Slow>, conn: u64, bytes: &[u8]) -> Resul
 
 // Two sockets that may be silent for two seconds. A second behind the first moment the other one is owed something.
 fn one_silent(alloc: Global) -> Result<Peers<Slow>, Fail> {
-    let limits = Limits {
+    let limits = PeerLimits {
         idle: 2,
         per_address: 0,
     };
@@ -236,7 +236,7 @@ fn a_silent_socket_is_let_go_of(rt: HostRuntime) -> Result<(), Fail> {
 
 // Two sockets of one address, and as many may be.
 fn two_of_one_address(alloc: Global) -> Result<Peers<Slow>, Fail> {
-    let limits = Limits {
+    let limits = PeerLimits {
         idle: 0,
         per_address: 2,
     };

@@ -139,7 +139,7 @@ impl Server {
             None => None,
             Some(world) => {
                 let services = &world.core.services;
-                services.subs.vars(SubscriptionId(number), &services.items)
+                services.subscriptions.vars(SubscriptionId(number), &services.items)
             }
         }
     }
@@ -157,7 +157,7 @@ impl Server {
                 world
                     .core
                     .services
-                    .subs
+                    .subscriptions
                     .kept_numbers(self.alloc, subscription)
             }
         }
@@ -171,7 +171,7 @@ impl Server {
             None => None,
             Some(world) => {
                 let subscription = SubscriptionId(number);
-                world.core.services.subs.kept(subscription, wanted)
+                world.core.services.subscriptions.kept(subscription, wanted)
             }
         }
     }
@@ -186,7 +186,7 @@ impl Server {
                 let services = &world.core.services;
                 Some(Population {
                     sessions: services.sessions.len(),
-                    subscriptions: services.subs.len(),
+                    subscriptions: services.subscriptions.len(),
                     items: services.items.len(),
                 })
             }

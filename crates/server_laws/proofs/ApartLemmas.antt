@@ -110,16 +110,16 @@ use Rattle.server_laws.proofs.OtherSessions.{IsFresh, Keeps, unchanged, sessions
 -- by each service but Write
 record KeepsRest (session : ℕ) (before after : Services) : Type 0 where
   sessions : Keeps session before.sessions after.sessions
-  rest : OthersStay session before.subs.table before.items after.subs.table after.items
+  rest : OthersStay session before.subscriptions.table before.items after.subscriptions.table after.items
 
 -- by a Write, whose accepted values are these
 record KeepsShown (session : ℕ) (changed : List Change) (before after : Services) : Type 0 where
   sessions : Keeps session before.sessions after.sessions
-  subs : after.subs ≡ before.subs
+  subs : after.subscriptions ≡ before.subscriptions
   items : after.items ≡ sampled before.items changed
 
 none_shown : (session : ℕ) (state : Services) (sessions : SessionsState) → Keeps session state.sessions sessions → KeepsShown session [] state (with_sessions state sessions)
-none_shown session state sessions p = record { sessions = p; subs = refl; items = refl }
+none_shown session state sessions p = record { sessions = p; subscriptions = refl; items = refl }
 
 not_shown : (session : ℕ) (state : Services) → KeepsShown session [] state state
 not_shown session state = none_shown session state state.sessions (unchanged session state.sessions)
@@ -136,7 +136,7 @@ pub record CameBy (subs : SubscriptionsState) (items : ItemsState) : Type 0 wher
 nothing_stays : (session : ℕ) (state : Services) (sessions : SessionsState) → Keeps session state.sessions sessions → KeepsRest session state (with_sessions state sessions)
 nothing_stays session state sessions p = record {
   sessions = p;
-  rest = none_changes session state.subs.table state.items;
+  rest = none_changes session state.subscriptions.table state.items;
 }
 
 none_stays : (session : ℕ) (state : Services) → KeepsRest session state state
@@ -148,26 +148,26 @@ later_stays : (session : ℕ) (state : Services) (sessions : SessionsState) (aft
 later_stays session state sessions after made p q = record { sessions = stay_behind session state.sessions sessions after.sessions made p q.sessions; rest = q.rest }
 
 abbrev StaysIn : ℕ → Services → Ran → Type 0
-StaysIn session state r = OthersStay session state.subs.table state.items r.subs.table r.items
+StaysIn session state r = OthersStay session state.subscriptions.table state.items r.subscriptions.table r.items
 
-call_stays : (session : ℕ) (state : Services) (from : CameBy state.subs state.items) (move : Move) → IsRequestOf session state.subs.table move →
+call_stays : (session : ℕ) (state : Services) (from : CameBy state.subscriptions state.items) (move : Move) → IsRequestOf session state.subscriptions.table move →
     StaysIn session state (moved (ran_at state from.rows from.came.replied) move)
 call_stays session state from move is =
-    subst (λ (r : Ran). IsRequestOf session r.subs.table move → OthersStay session r.subs.table r.items (moved r move).subs.table (moved r move).items) from.came.left
+    subst (λ (r : Ran). IsRequestOf session r.subscriptions.table move → OthersStay session r.subscriptions.table r.items (moved r move).subscriptions.table (moved r move).items) from.came.left
     (requests_stay_apart from.config from.moves move session) is
 
-one_stays : {A : Type 0} (session : ℕ) (state : Services) (from : CameBy state.subs state.items) (own : A → List Reply) (s : Said A) (move : Move) →
-    ((so_far : List Fired) (replies : List Reply) → moved (ran_at state so_far replies) move ≡ ran_by (ran_at state so_far replies) s) → IsRequestOf session state.subs.table move → KeepsRest session state (called state own s).state
+one_stays : {A : Type 0} (session : ℕ) (state : Services) (from : CameBy state.subscriptions state.items) (own : A → List Reply) (s : Said A) (move : Move) →
+    ((so_far : List Fired) (replies : List Reply) → moved (ran_at state so_far replies) move ≡ ran_by (ran_at state so_far replies) s) → IsRequestOf session state.subscriptions.table move → KeepsRest session state (called state own s).state
 one_stays session state from own s move f is = record {
   sessions = unchanged session state.sessions;
   rest = subst (StaysIn session state) (f from.rows from.came.replied) (call_stays session state from move is);
 }
 
-told_stays : (session : ℕ) (state : Services) (from : CameBy state.subs state.items) (w : Stage) (move : Move) →
-    ((so_far : List Fired) (replies : List Reply) → moved (ran_at state so_far replies) move ≡ ran_by (ran_at state so_far replies) (without_answer state.subs w)) → IsRequestOf session state.subs.table move →
+told_stays : (session : ℕ) (state : Services) (from : CameBy state.subscriptions state.items) (w : Stage) (move : Move) →
+    ((so_far : List Fired) (replies : List Reply) → moved (ran_at state so_far replies) move ≡ ran_by (ran_at state so_far replies) (without_answer state.subscriptions w)) → IsRequestOf session state.subscriptions.table move →
     KeepsRest session state (called_alone state w).state
 unfolding called_alone
-told_stays session state from w move f is = one_stays session state from no_reply (without_answer state.subs w) move f is
+told_stays session state from w move f is = one_stays session state from no_reply (without_answer state.subscriptions w) move f is
 
 -- the same, where the serving is seen to be one of two
 record Apart (session : ℕ) (state : Services) (s : Serving) : Type 0 where
@@ -205,7 +205,7 @@ activate_session_stays session setting caller token state request only =
     taken_stays session caller state setting.clock (spent_by state.sessions) (activate_session_body setting caller) s.answer s.state
     (activate_leaves session state.sessions token caller.origin.conn caller.key is_free only).stay
 
-closed_stays : (session : ℕ) (setting : Setting) (caller : Caller) (deleting : Bool) (state : Services) (from : CameBy state.subs state.items) (answer : Result ℕ Status) (sessions : SessionsState) →
+closed_stays : (session : ℕ) (setting : Setting) (caller : Caller) (deleting : Bool) (state : Services) (from : CameBy state.subscriptions state.items) (answer : Result ℕ Status) (sessions : SessionsState) →
     sessions.made ≡ state.sessions.made → Keeps session state.sessions sessions → IfOk answer (λ number. number ≡ session) → KeepsRest session state (closed_by setting caller deleting state answer sessions).state
 closed_stays session setting caller deleting state from (Ok number) sessions made p is =
     let open_state = with_sessions state sessions in
@@ -213,7 +213,7 @@ closed_stays session setting caller deleting state from (Ok number) sessions mad
     (told_stays session open_state from (session_ended number deleting (stage_at setting open_state)) (Move.EndSession setting.clock number deleting) (λ so_far replies. refl) is)
 closed_stays session setting caller deleting state from (Err code) sessions made p is = nothing_stays session state sessions p
 
-close_session_stays : (session : ℕ) (setting : Setting) (caller : Caller) (token : NodeId) (state : Services) (from : CameBy state.subs state.items) (request : CloseSessionRequest) → NamesIn session state token →
+close_session_stays : (session : ℕ) (setting : Setting) (caller : Caller) (token : NodeId) (state : Services) (from : CameBy state.subscriptions state.items) (request : CloseSessionRequest) → NamesIn session state token →
     KeepsRest session state (close_session_meaning setting caller token request state).state
 close_session_stays session setting caller token state from request only =
     let s = close_of state.sessions token caller.origin.conn in
@@ -229,8 +229,8 @@ if_found_stays session serve setting caller state (Ok number) sessions made p is
     subst (λ (n : ℕ). KeepsRest session state (serve n (with_sessions state sessions)).state) (sym is) (later_stays session state sessions (serve session (with_sessions state sessions)).state made p q)
 if_found_stays session serve setting caller state (Err code) sessions made p is q = nothing_stays session state sessions p
 
-by_session : {A : Type 0} (session : ℕ) (meaning : Setting → Caller → ℕ → A → Services → Serving) (setting : Setting) (caller : Caller) (token : NodeId) (state : Services) (from : CameBy state.subs state.items) → NamesIn session state token →
-    ((request : A) (after : Services) → CameBy after.subs after.items → KeepsRest session after (meaning setting caller session request after).state) → (r : Result A TakeFault) → Apart session state (served_in_session meaning setting caller token state r)
+by_session : {A : Type 0} (session : ℕ) (meaning : Setting → Caller → ℕ → A → Services → Serving) (setting : Setting) (caller : Caller) (token : NodeId) (state : Services) (from : CameBy state.subscriptions state.items) → NamesIn session state token →
+    ((request : A) (after : Services) → CameBy after.subscriptions after.items → KeepsRest session after (meaning setting caller session request after).state) → (r : Result A TakeFault) → Apart session state (served_in_session meaning setting caller token state r)
 by_session session meaning setting caller token state from only f (Ok request) =
     let s = find_of state.sessions token caller.origin.conn in
     let h = find_leaves session state.sessions token caller.origin.conn only in
@@ -298,35 +298,35 @@ history_read_stays session setting caller request state = history_timed_stays se
 
 -- ---- subscriptions
 
-create_subscription_stays : (session : ℕ) (setting : Setting) (caller : Caller) (request : CreateSubscriptionRequest) (state : Services) → CameBy state.subs state.items → KeepsRest session state (create_subscription_meaning setting caller session request state).state
+create_subscription_stays : (session : ℕ) (setting : Setting) (caller : Caller) (request : CreateSubscriptionRequest) (state : Services) → CameBy state.subscriptions state.items → KeepsRest session state (create_subscription_meaning setting caller session request state).state
 create_subscription_stays session setting caller request state from =
-    one_stays session state from (λ answer. reply_of caller (create_subscription_body setting caller answer) ∷ []) (created session (settings_asked request) request.publishing_enabled state.subs state.items setting.clock)
+    one_stays session state from (λ answer. reply_of caller (create_subscription_body setting caller answer) ∷ []) (created session (settings_asked request) request.publishing_enabled state.subscriptions state.items setting.clock)
     (Move.Create setting.clock session (settings_asked request) request.publishing_enabled) (λ so_far replies. refl) refl
 
-modify_subscription_stays : (session : ℕ) (setting : Setting) (caller : Caller) (request : ModifySubscriptionRequest) (state : Services) → CameBy state.subs state.items → KeepsRest session state (modify_subscription_meaning setting caller session request state).state
+modify_subscription_stays : (session : ℕ) (setting : Setting) (caller : Caller) (request : ModifySubscriptionRequest) (state : Services) → CameBy state.subscriptions state.items → KeepsRest session state (modify_subscription_meaning setting caller session request state).state
 modify_subscription_stays session setting caller request state from =
-    one_stays session state from (λ answer. reply_of caller (modify_subscription_body setting caller answer) ∷ []) (said state.subs (modified session request.subscription_id (settings_wanted request) (stage_at setting state)))
+    one_stays session state from (λ answer. reply_of caller (modify_subscription_body setting caller answer) ∷ []) (said state.subscriptions (modified session request.subscription_id (settings_wanted request) (stage_at setting state)))
     (Move.Modify setting.clock session request.subscription_id (settings_wanted request)) (λ so_far replies. refl) refl
 
-publishing_listed_stays : (session : ℕ) (setting : Setting) (caller : Caller) (enabled : Bool) (state : Services) (from : CameBy state.subs state.items) (r : Result (List ℕ) Status) → KeepsRest session state (set_publishing_listed setting caller session enabled state r).state
+publishing_listed_stays : (session : ℕ) (setting : Setting) (caller : Caller) (enabled : Bool) (state : Services) (from : CameBy state.subscriptions state.items) (r : Result (List ℕ) Status) → KeepsRest session state (set_publishing_listed setting caller session enabled state r).state
 publishing_listed_stays session setting caller enabled state from (Ok numbers) =
-    one_stays session state from (λ statuses. reply_of caller (statuses_body SET_PUBLISHING_MODE_RESPONSE setting caller statuses) ∷ []) (said state.subs (named_all session (sub_call.SetMode enabled) (stage_at setting state) numbers))
+    one_stays session state from (λ statuses. reply_of caller (statuses_body SET_PUBLISHING_MODE_RESPONSE setting caller statuses) ∷ []) (said state.subscriptions (named_all session (sub_call.SetMode enabled) (stage_at setting state) numbers))
     (Move.SetMode setting.clock session numbers enabled) (λ so_far replies. refl) refl
 publishing_listed_stays session setting caller enabled state from (Err code) = none_stays session state
 
-set_publishing_mode_stays : (session : ℕ) (setting : Setting) (caller : Caller) (request : SetPublishingModeRequest) (state : Services) → CameBy state.subs state.items → KeepsRest session state (set_publishing_mode_meaning setting caller session request state).state
+set_publishing_mode_stays : (session : ℕ) (setting : Setting) (caller : Caller) (request : SetPublishingModeRequest) (state : Services) → CameBy state.subscriptions state.items → KeepsRest session state (set_publishing_mode_meaning setting caller session request state).state
 set_publishing_mode_stays session setting caller request state from = publishing_listed_stays session setting caller request.publishing_enabled state from (operations_of setting.config request.subscription_ids)
 
-subscriptions_deleted_stay : (session : ℕ) (setting : Setting) (caller : Caller) (state : Services) (from : CameBy state.subs state.items) (r : Result (List ℕ) Status) → KeepsRest session state (delete_subscriptions_listed setting caller session state r).state
+subscriptions_deleted_stay : (session : ℕ) (setting : Setting) (caller : Caller) (state : Services) (from : CameBy state.subscriptions state.items) (r : Result (List ℕ) Status) → KeepsRest session state (delete_subscriptions_listed setting caller session state r).state
 subscriptions_deleted_stay session setting caller state from (Ok numbers) =
-    one_stays session state from (λ statuses. reply_of caller (statuses_body DELETE_SUBSCRIPTIONS_RESPONSE setting caller statuses) ∷ []) (said state.subs (deleted session (stage_at setting state) numbers))
+    one_stays session state from (λ statuses. reply_of caller (statuses_body DELETE_SUBSCRIPTIONS_RESPONSE setting caller statuses) ∷ []) (said state.subscriptions (deleted session (stage_at setting state) numbers))
     (Move.Delete setting.clock session numbers) (λ so_far replies. refl) refl
 subscriptions_deleted_stay session setting caller state from (Err code) = none_stays session state
 
-delete_subscriptions_stays : (session : ℕ) (setting : Setting) (caller : Caller) (request : DeleteSubscriptionsRequest) (state : Services) → CameBy state.subs state.items → KeepsRest session state (delete_subscriptions_meaning setting caller session request state).state
+delete_subscriptions_stays : (session : ℕ) (setting : Setting) (caller : Caller) (request : DeleteSubscriptionsRequest) (state : Services) → CameBy state.subscriptions state.items → KeepsRest session state (delete_subscriptions_meaning setting caller session request state).state
 delete_subscriptions_stays session setting caller request state from = subscriptions_deleted_stay session setting caller state from (operations_of setting.config request.subscription_ids)
 
-publish_stays : (session : ℕ) (setting : Setting) (caller : Caller) (request : PublishRequest) (state : Services) → CameBy state.subs state.items → KeepsRest session state (publish_meaning setting caller session request state).state
+publish_stays : (session : ℕ) (setting : Setting) (caller : Caller) (request : PublishRequest) (state : Services) → CameBy state.subscriptions state.items → KeepsRest session state (publish_meaning setting caller session request state).state
 publish_stays session setting caller request state from =
     let acks = or_none request.subscription_acknowledgements in
     let w = published session (publish_call caller) acks (stage_at setting state) in
@@ -334,30 +334,30 @@ publish_stays session setting caller request state from =
     let one : Apart session state (publish_meaning setting caller session request state) = either session state (nat_lt setting.config.operations (length acks)) _ _ (record { stays = none_stays session state }) told_so in
     one.stays
 
-republish_stays : (session : ℕ) (setting : Setting) (caller : Caller) (request : RepublishRequest) (state : Services) → CameBy state.subs state.items → KeepsRest session state (republish_meaning setting caller session request state).state
+republish_stays : (session : ℕ) (setting : Setting) (caller : Caller) (request : RepublishRequest) (state : Services) → CameBy state.subscriptions state.items → KeepsRest session state (republish_meaning setting caller session request state).state
 republish_stays session setting caller request state from =
-    one_stays session state from (λ answer. reply_of caller (republish_answer setting caller answer) ∷ []) (said state.subs (republished session request.subscription_id request.retransmit_sequence_number (stage_at setting state)))
+    one_stays session state from (λ answer. reply_of caller (republish_answer setting caller answer) ∷ []) (said state.subscriptions (republished session request.subscription_id request.retransmit_sequence_number (stage_at setting state)))
     (Move.Republish setting.clock session request.subscription_id request.retransmit_sequence_number) (λ so_far replies. refl) refl
 
 -- ---- monitored items
 
-module _ (session : ℕ) (setting : Setting) (caller : Caller) (number : ℕ) (state : Services) (from : CameBy state.subs state.items) (items_done : Itemed) (asked : Option ItemsCall) (asks : Asks number state.items items_done.items asked) where
-  found_stays : (found : Option Vars) → vars_found number state.items state.subs.table ≡ found → is_own state.subs.table session number ≡ true → KeepsRest session state (items_called_by setting caller number state items_done found).state
+module _ (session : ℕ) (setting : Setting) (caller : Caller) (number : ℕ) (state : Services) (from : CameBy state.subscriptions state.items) (items_done : Itemed) (asked : Option ItemsCall) (asks : Asks number state.items items_done.items asked) where
+  found_stays : (found : Option Vars) → vars_found number state.items state.subscriptions.table ≡ found → is_own state.subscriptions.table session number ≡ true → KeepsRest session state (items_called_by setting caller number state items_done found).state
   found_stays None e own = none_stays session state
   found_stays (Some before) e own =
       one_stays session state from (λ (x : Unit {0}). reply_of caller items_done.body ∷ []) (row_after setting number state items_done.items before) (Move.Items setting.clock number asked)
       (asked_ran setting number state items_done.items asked asks before e) own
 
-  own_stays : (own : Bool) → is_own state.subs.table session number ≡ own → KeepsRest session state (items_called_by setting caller number state items_done (cond own (vars_found number state.items state.subs.table) None)).state
-  own_stays true e = found_stays (vars_found number state.items state.subs.table) refl e
+  own_stays : (own : Bool) → is_own state.subscriptions.table session number ≡ own → KeepsRest session state (items_called_by setting caller number state items_done (cond own (vars_found number state.items state.subscriptions.table) None)).state
+  own_stays true e = found_stays (vars_found number state.items state.subscriptions.table) refl e
   own_stays false e = none_stays session state
 
   items_stay : KeepsRest session state (items_called_by setting caller number state items_done (own_vars session number state)).state
-  items_stay = own_stays (is_own state.subs.table session number) refl
+  items_stay = own_stays (is_own state.subscriptions.table session number) refl
 
 -- ---- all services but Write
 
-module _ (session : ℕ) (setting : Setting) (caller : Caller) (token : NodeId) (fields : List ℕ) (state : Services) (from : CameBy state.subs state.items) (only : NamesIn session state token) where
+module _ (session : ℕ) (setting : Setting) (caller : Caller) (token : NodeId) (fields : List ℕ) (state : Services) (from : CameBy state.subscriptions state.items) (only : NamesIn session state token) where
   -- where the service isn't Write
   abbrev Stays : Option Service → Type 0
   Stays service = Apart session state (served_as setting caller token fields state service)
@@ -389,7 +389,7 @@ module _ (session : ℕ) (setting : Setting) (caller : Caller) (token : NodeId) 
 
 write_shown : (session : ℕ) (setting : Setting) (caller : Caller) (state : Services) (sessions : SessionsState) → Keeps session state.sessions sessions → (r : Result (List WriteValue) Status) →
     KeepsShown session (accepted_listed setting state r) state (write_listed setting caller (with_sessions state sessions) r).state
-write_shown session setting caller state sessions p (Ok values) = record { sessions = p; subs = refl; items = refl }
+write_shown session setting caller state sessions p (Ok values) = record { sessions = p; subscriptions = refl; items = refl }
 write_shown session setting caller state sessions p (Err code) = none_shown session state sessions p
 
 write_found : (session : ℕ) (setting : Setting) (caller : Caller) (state : Services) (write : WriteRequest) (answer : Result ℕ Status) (sessions : SessionsState) → Keeps session state.sessions sessions →
@@ -399,7 +399,7 @@ write_found session setting caller state write (Err code) sessions p = none_show
 
 -- ---- all services
 
-module _ (setting : Setting) (request : Request) (state : Services) (from : CameBy state.subs state.items) where
+module _ (setting : Setting) (request : Request) (state : Services) (from : CameBy state.subscriptions state.items) where
   abbrev Only : ℕ → Result Headed TakeFault → Type 0
   Only session headed = IfOk headed (λ (h : Headed). NamesIn session state h.header.authentication_token)
 
@@ -445,7 +445,7 @@ module _ (setting : Setting) (request : Request) (state : Services) (from : Came
         record { sessions = sessions_stay session state.sessions (serving_of setting request state).state.sessions fresh k.sessions; rest = k.rest };
     written = λ session only is.
         let k = written session only is in
-        record { sessions = sessions_stay session state.sessions (serving_of setting request state).state.sessions fresh k.sessions; subs = k.subs; items = k.items };
+        record { sessions = sessions_stay session state.sessions (serving_of setting request state).state.sessions fresh k.sessions; subscriptions = k.subscriptions; items = k.items };
   }
 
   -- numbers of sessions are given one after the other

@@ -22,8 +22,8 @@ few_subscriptions_kept config is space events =
       queues = subst (λ (items : ItemsState). QueuesAreWithin config items.items) c.items (queues_within config is moves);
       items = subst (λ (items : ItemsState). ItemsAreWithin config items.items) c.items (few_items config is moves);
       all_items = subst (λ (items : ItemsState). AllItemsAreWithin config items.items) c.items (few_items_in_all config is moves);
-      requests = subst (λ (subs : SubscriptionsState). RequestsAreWithin config subs.table) c.subs (few_requests config is moves);
-      subscriptions = subst (λ (subs : SubscriptionsState). SubscriptionsAreWithin config subs.table) c.subs (few_subscriptions config is moves);
-      all_subscriptions = subst (λ (subs : SubscriptionsState). AllSubscriptionsAreWithin config subs.table) c.subs (few_subscriptions_in_all config is moves);
-      kept = subst (λ (subs : SubscriptionsState). KeptAreWithin config subs.table) c.subs (few_kept config is moves);
+      requests = subst (λ (subs : SubscriptionsState). RequestsAreWithin config subs.table) c.subscriptions (few_requests config is moves);
+      subscriptions = subst (λ (subs : SubscriptionsState). SubscriptionsAreWithin config subs.table) c.subscriptions (few_subscriptions config is moves);
+      all_subscriptions = subst (λ (subs : SubscriptionsState). AllSubscriptionsAreWithin config subs.table) c.subscriptions (few_subscriptions_in_all config is moves);
+      kept = subst (λ (subs : SubscriptionsState). KeptAreWithin config subs.table) c.subscriptions (few_kept config is moves);
     }) r.server (comes_by_moves config space events)

@@ -83,7 +83,7 @@ shown_by None = tt
 shown_by (Some s) = all_kept s.kept
 
 shows_kept : (world : World) → KeepsWhatItShows world
-shows_kept world number = let subs : SubscriptionsState = world.core.services.subs in shown_by (subscription_at number subs.table.subscriptions)
+shows_kept world number = let subs : SubscriptionsState = world.core.services.subscriptions in shown_by (subscription_at number subs.table.subscriptions)
 
 -- ---- a server's
 
@@ -100,13 +100,13 @@ module _ (config : Configuration) (space : SpaceState) (events : List Event) whe
       (run_made (fold moved (start config) moves) added.0, ap (run_made (start config)) added.1 ∙ of_run-append moved_made moves added.0 (start config))
 
   -- what holds of the subscriptions and items after the calls, holds of the server's
-  holds : (P : SubscriptionsState → ItemsState → Type 0) → P (run config moves).subs (run config moves).items →
-      IfRuns (λ (world : World). let services : Services = world.core.services in P services.subs services.items) (reached config space events).server
+  holds : (P : SubscriptionsState → ItemsState → Type 0) → P (run config moves).subscriptions (run config moves).items →
+      IfRuns (λ (world : World). let services : Services = world.core.services in P services.subscriptions services.items) (reached config space events).server
   holds P p = by (reached config space events).server (comes_by_moves config space events)
     where
-      by : (server : Option World) → IfRuns (LeadTo config moves (rows_of_run (reached config space events))) server → IfRuns (λ (world : World). let services : Services = world.core.services in P services.subs services.items) server
+      by : (server : Option World) → IfRuns (LeadTo config moves (rows_of_run (reached config space events))) server → IfRuns (λ (world : World). let services : Services = world.core.services in P services.subscriptions services.items) server
       by None h = tt
-      by (Some world) h = subst (λ (items : ItemsState). P world.core.services.subs items) h.items (subst (λ (subs : SubscriptionsState). P subs (run config moves).items) h.subs p)
+      by (Some world) h = subst (λ (items : ItemsState). P world.core.services.subscriptions items) h.items (subst (λ (subs : SubscriptionsState). P subs (run config moves).items) h.subscriptions p)
 
   -- what holds of each world
   always : (P : World → Type 0) → ((world : World) → P world) → IfRuns P (reached config space events).server

@@ -76,7 +76,7 @@ one_call state own s move f so_far replies =
     let round = s.outcome.stage.round in
     record {
       answers = round.replies;
-      left = f so_far replies ∙ ap (λ (rows : List Fired). ran_at (called state own s).state (so_far ++ rows) (replies ++ round.replies)) (sym (rows_of_round state.subs.halted round));
+      left = f so_far replies ∙ ap (λ (rows : List Fired). ran_at (called state own s).state (so_far ++ rows) (replies ++ round.replies)) (sym (rows_of_round state.subscriptions.halted round));
       among = stand_behind (own s.outcome.answer) round.replies;
     }
 

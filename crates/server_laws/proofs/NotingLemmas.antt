@@ -30,9 +30,9 @@ noted session asked acks w note is none =
     ∙ ap (λ (rs : List Reply). rs ++ published_of w.round.clock (with_results asked all.results) note.subscription [] false (timeout_message note.number w.round.clock) ∷ []) none
 
 pub time_outs_noted : (setting : Setting) (caller : Caller) (session : ℕ) (acks : List SubscriptionAcknowledgement) (state : Services) (note : TimeoutNote) →
-    nat_lt setting.config.operations (length acks) ≡ false → note_of session state.subs.table.sessions ≡ Some note →
+    nat_lt setting.config.operations (length acks) ≡ false → note_of session state.subscriptions.table.sessions ≡ Some note →
     (publish_acknowledged setting caller session state acks).replies
-    ≡ published_of setting.clock (with_results (publish_call caller) (acknowledged_all session state.subs.table.subscriptions acks).results) note.subscription [] false (timeout_message note.number setting.clock) ∷ []
+    ≡ published_of setting.clock (with_results (publish_call caller) (acknowledged_all session state.subscriptions.table.subscriptions acks).results) note.subscription [] false (timeout_message note.number setting.clock) ∷ []
 time_outs_noted setting caller session acks state note few is =
     let w = stage_at setting state in
     ap (λ (b : Bool). (cond b (faulted state caller status.BAD_TOO_MANY_OPERATIONS setting.clock) (called_alone state (published session (publish_call caller) acks w))).replies) few

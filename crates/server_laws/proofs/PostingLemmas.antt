@@ -66,13 +66,13 @@ all_are_posted setting (reply ∷ replies) connections = ap (λ (rs : List Reply
 pub record Posts (before : Services) (moves : List Move) (after : Services) (ps : List Posting) (effects : List Effect) : Type 0 where
   pub answers : ComesOnWith before moves after (fired_of effects) (map reply_posted ps)
   pub out : GoOut ps (outs_of effects)
-  pub fresh : CameBy before.subs before.items → IsFresh before.sessions → IsFresh after.sessions
+  pub fresh : CameBy before.subscriptions before.items → IsFresh before.sessions → IsFresh after.sessions
 
 -- where they lead
 pub goes : (before : Services) (moves : List Move) (after : Services) (ps : List Posting) (effects : List Effect) → Posts before moves after ps effects → ComesOn before moves after (fired_of effects)
 goes before moves after ps effects h = goes_on before moves after (fired_of effects) (map reply_posted ps) h.answers
 
-came_on : (before : Services) (moves : List Move) (after : Services) (rows : List Fired) → ComesOn before moves after rows → CameBy before.subs before.items → CameBy after.subs after.items
+came_on : (before : Services) (moves : List Move) (after : Services) (rows : List Fired) → ComesOn before moves after rows → CameBy before.subscriptions before.items → CameBy after.subscriptions after.items
 came_on before moves after rows p from =
     let next = p from.rows from.came.replied in
     record {
@@ -101,7 +101,7 @@ as_one before ms after ps effects h =
 
 -- what was served is posted
 served_post : (core : Core) (moves : List Move) (s : Serving) → ComesOnWith core.services moves s.state (rows_of s.occurrences) s.replies →
-    (CameBy core.services.subs core.services.items → IsFresh core.services.sessions → IsFresh s.state.sessions) →
+    (CameBy core.services.subscriptions core.services.items → IsFresh core.services.sessions → IsFresh s.state.sessions) →
     Posts core.services (moves ++ []) s.state (postings core.setting core.connections s.replies ++ []) (effects_served core s)
 served_post core moves s p fresh =
     let d = delivery_of core.setting core.connections s.replies in

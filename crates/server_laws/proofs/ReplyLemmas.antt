@@ -61,12 +61,12 @@ brings state s rows replies moves made kept numbered goes =
     }
 
 -- from where some calls led
-brings_from : (config : Configuration) (before moves : List Move) (state : Services) (s : Serving) → (run config before).subs ≡ state.subs → (run config before).items ≡ state.items → ComesOnBy state moves s → BringsItsMessages (run config before) moves s
+brings_from : (config : Configuration) (before moves : List Move) (state : Services) (s : Serving) → (run config before).subscriptions ≡ state.subscriptions → (run config before).items ≡ state.items → ComesOnBy state moves s → BringsItsMessages (run config before) moves s
 brings_from config before moves state s subs items goes =
     let r = run config before in
     let same : ran_at state r.rows r.replies ≡ r =
-    ap (λ (x : SubscriptionsState). record { subs = x; items = state.items; rows = r.rows; replies = r.replies }) (sym subs)
-    ∙ ap (λ (x : ItemsState). record { subs = r.subs; items = x; rows = r.rows; replies = r.replies }) (sym items) in
+    ap (λ (x : SubscriptionsState). record { subscriptions = x; items = state.items; rows = r.rows; replies = r.replies }) (sym subs)
+    ∙ ap (λ (x : ItemsState). record { subscriptions = r.subscriptions; items = x; rows = r.rows; replies = r.replies }) (sym items) in
     subst (λ (from : Ran). BringsItsMessages from moves s) same
     (brings state s r.rows r.replies moves (run_made (start config) before) (subst IsRunKept (sym same) (run_kept config before)) (subst (IsRunNumbered (run_made (start config) before)) (sym same) (run_numbered config before)) goes)
 
@@ -75,8 +75,8 @@ brings_from config before moves state s subs items goes =
 brings_by : (config : Configuration) (moves : List Move) (rows : List Fired) (server : Option World) → IfRuns (LeadTo config moves rows) server → IfRuns (BringsMessages (run config moves)) server
 brings_by config moves rows None h = tt
 brings_by config moves rows (Some world) h = record {
-  requests = λ request. brings_from config moves (serving_moves world.core.setting request world.core.services) world.core.services (serving_of world.core.setting request world.core.services) h.subs h.items (serving_on world.core.setting request world.core.services);
-  ticks = λ clock. brings_from config moves (ticking_moves (setting_at world.core clock) world.core.services) world.core.services (ticking_of (setting_at world.core clock) world.core.services) h.subs h.items (ticking_on (setting_at world.core clock) world.core.services);
+  requests = λ request. brings_from config moves (serving_moves world.core.setting request world.core.services) world.core.services (serving_of world.core.setting request world.core.services) h.subscriptions h.items (serving_on world.core.setting request world.core.services);
+  ticks = λ clock. brings_from config moves (ticking_moves (setting_at world.core clock) world.core.services) world.core.services (ticking_of (setting_at world.core clock) world.core.services) h.subscriptions h.items (ticking_on (setting_at world.core clock) world.core.services);
 }
 
 pub brings_messages : (config : Configuration) (space : SpaceState) (events : List Event) → IfRuns (BringsMessages (run config (moves_of config space events))) (reached config space events).server

@@ -67,7 +67,7 @@ module _ (has_store : Bool) where
   follows setting = record {
     still = λ state replies spends is_refused p. still state state _ p refl refl (none_stored spends);
     steps = λ state step moves s f p. from_same state (stepped state step) s.state _ refl refl (f p);
-    calls = λ A state own s move e p. still state (called state own s).state _ p refl refl (rounds_store_none state.subs.halted s.outcome.stage.round);
+    calls = λ A state own s move e p. still state (called state own s).state _ p refl refl (rounds_store_none state.subscriptions.halted s.outcome.stage.round);
     next = λ state moves later s more f g p.
         let first = f p in
         let t : Serving = more s.state in

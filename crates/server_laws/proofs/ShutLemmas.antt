@@ -50,7 +50,7 @@ use Rattle.subscription_laws.proofs.Entries.{same_or_not}
 
 -- it hears no connection, and has no subscription
 abbrev IsEmpty : World → Type 0
-IsEmpty world = ((conn : ℕ) → get world.framers conn ≡ None) × (let services : Services = world.core.services in services.subs.table.subscriptions ≡ [])
+IsEmpty world = ((conn : ℕ) → get world.framers conn ≡ None) × (let services : Services = world.core.services in services.subscriptions.table.subscriptions ≡ [])
 
 abbrev EndsEmpty : World → Type 0
 EndsEmpty world = world.core.is_shut ≡ true → IsEmpty world
@@ -64,8 +64,8 @@ ends_plain : (setting : Setting) (numbers : List ℕ) (rest : List Move) → All
 ends_plain setting [] rest h = h
 ends_plain setting (n ∷ ns) rest h = (refl, ends_plain setting ns rest h)
 
-none_after : (before : Services) (moves : List Move) (s : Serving) → ComesOnBy before moves s → AllByRecursion Plain moves → before.subs.table.subscriptions ≡ [] → s.state.subs.table.subscriptions ≡ []
-none_after before moves s goes plain none = sym (ap (λ (r : Ran). r.subs.table.subscriptions) (goes [] []).left) ∙ none_comes moves (ran_at before [] []) plain none
+none_after : (before : Services) (moves : List Move) (s : Serving) → ComesOnBy before moves s → AllByRecursion Plain moves → before.subscriptions.table.subscriptions ≡ [] → s.state.subscriptions.table.subscriptions ≡ []
+none_after before moves s goes plain none = sym (ap (λ (r : Ran). r.subscriptions.table.subscriptions) (goes [] []).left) ∙ none_comes moves (ran_at before [] []) plain none
 
 ticked_empty : (world : World) (now : Moment) → EndsEmpty world → EndsEmpty (stepping.ticked world now).world
 ticked_empty world now h is =
@@ -75,9 +75,9 @@ ticked_empty world now h is =
 
 -- ---- the shutdown
 
-none_left : (setting : Setting) (services : Services) → (shutting_of setting services).state.subs.table.subscriptions ≡ []
+none_left : (setting : Setting) (services : Services) → (shutting_of setting services).state.subscriptions.table.subscriptions ≡ []
 none_left setting services =
-    sym (ap (λ (r : Ran). r.subs.table.subscriptions) (shutting_on setting services [] []).left) ∙ ap (λ (t : TableState). t.subscriptions) (nothing_left (stage_of services.subs services.items setting.clock))
+    sym (ap (λ (r : Ran). r.subscriptions.table.subscriptions) (shutting_on setting services [] []).left) ∙ ap (λ (t : TableState). t.subscriptions) (nothing_left (stage_of services.subscriptions services.items setting.clock))
 
 shut_empty : (world : World) → EndsEmpty world → EndsEmpty (stepping.shut_down world).world
 unfolding stepping.shut_down

@@ -67,7 +67,7 @@ serves_by_frames core conn frame request e =
 
 -- calls that leave this lead there
 leads : (config : Configuration) (moves : List Move) (world : World) (rows : List Fired) (replies : List Reply) → fold moved (start config) moves ≡ ran_at world.core.services rows replies → LeadTo config moves rows world
-leads config moves world rows replies left = record { subs = ap (λ (r : Ran). r.subs) left; items = ap (λ (r : Ran). r.items) left; fired = ap (λ (r : Ran). r.rows) left }
+leads config moves world rows replies left = record { subscriptions = ap (λ (r : Ran). r.subscriptions) left; items = ap (λ (r : Ran). r.items) left; fired = ap (λ (r : Ran). r.rows) left }
 
 module _ (config : Configuration) (space : SpaceState) (events : List Event) where
   abbrev r : Running
@@ -79,23 +79,23 @@ module _ (config : Configuration) (space : SpaceState) (events : List Event) whe
   gone : HasGone Goes (opening config space).core (dealings_of config space events) r
   gone = posting.gone config space events
 
-  went : let services : Services = gone.world.core.services in Went (start config) moves services.subs services.items (rows_of_run r)
+  went : let services : Services = gone.world.core.services in Went (start config) moves services.subscriptions services.items (rows_of_run r)
   went = goes (opening config space).core.services moves gone.world.core.services (posted config space events) (joined_effects r.steps) gone.goes [] []
 
-  shown : (P : TableState → Type 0) → (let services : Services = gone.world.core.services in P services.subs.table) → IfShown P r.server
-  shown P p = seen gone (λ (world : World). let services : Services = world.core.services in P services.subs.table) p
+  shown : (P : TableState → Type 0) → (let services : Services = gone.world.core.services in P services.subscriptions.table) → IfShown P r.server
+  shown P p = seen gone (λ (world : World). let services : Services = world.core.services in P services.subscriptions.table) p
 
   pub comes_by_moves : IfRuns (LeadTo config moves (rows_of_run r)) r.server
   comes_by_moves = seen gone (LeadTo config moves (rows_of_run r)) (leads config moves gone.world (rows_of_run r) went.replied went.left)
 
   pub stays_steady : IfRuns (StaysSteady (rows_of_run r)) r.server
-  stays_steady = seen gone (StaysSteady (rows_of_run r)) (subst (λ (ran : Ran). AreSteady ran.subs.table ran.items ran.rows) went.left (all_steady config moves))
+  stays_steady = seen gone (StaysSteady (rows_of_run r)) (subst (λ (ran : Ran). AreSteady ran.subscriptions.table ran.items ran.rows) went.left (all_steady config moves))
 
   stays_sound : IfRuns VariablesAreSound r.server
   stays_sound = seen gone VariablesAreSound (λ number s found. steady_is_sound _ (steady_now number s found))
     where
-      steady_now : let services : Services = gone.world.core.services in AreSteady services.subs.table services.items (rows_of_run r)
-      steady_now = subst (λ (ran : Ran). AreSteady ran.subs.table ran.items ran.rows) went.left (all_steady config moves)
+      steady_now : let services : Services = gone.world.core.services in AreSteady services.subscriptions.table services.items (rows_of_run r)
+      steady_now = subst (λ (ran : Ran). AreSteady ran.subscriptions.table ran.items ran.rows) went.left (all_steady config moves)
 
   pub reached_lawful : AreLawful (rows_of_run r)
   reached_lawful = subst (λ (ran : Ran). AreLawful ran.rows) went.left (rows_are_lawful config moves)
@@ -104,13 +104,13 @@ module _ (config : Configuration) (space : SpaceState) (events : List Event) whe
   rows_for_each = subst (λ (ran : Ran). AreTheRowsFor (all_concerned config moves) ran.rows) went.left (one_row_for_each config moves)
 
   pub none_waits : IfShown NoneWaitsBesideARequest r.server
-  none_waits = shown NoneWaitsBesideARequest (subst (λ (ran : Ran). NoneWaitsBesideARequest ran.subs.table) went.left (none_beside config moves))
+  none_waits = shown NoneWaitsBesideARequest (subst (λ (ran : Ran). NoneWaitsBesideARequest ran.subscriptions.table) went.left (none_beside config moves))
 
   lives_are_counted : IfShown (LivesCountTimers (rows_of_run r)) r.server
-  lives_are_counted = shown (LivesCountTimers (rows_of_run r)) (subst (λ (ran : Ran). LivesCountTimers ran.rows ran.subs.table) went.left (lives_count config moves))
+  lives_are_counted = shown (LivesCountTimers (rows_of_run r)) (subst (λ (ran : Ran). LivesCountTimers ran.rows ran.subscriptions.table) went.left (lives_count config moves))
 
   pub none_is_skipped : IfShown (NoKeepAliveIsSkipped (rows_of_run r)) r.server
-  none_is_skipped = shown (NoKeepAliveIsSkipped (rows_of_run r)) (subst (λ (ran : Ran). NoKeepAliveIsSkipped ran.rows ran.subs.table) went.left (none_skipped config moves))
+  none_is_skipped = shown (NoKeepAliveIsSkipped (rows_of_run r)) (subst (λ (ran : Ran). NoKeepAliveIsSkipped ran.rows ran.subscriptions.table) went.left (none_skipped config moves))
 
   pub one_row : FiresOneRow config space events
   one_row = record {
@@ -134,10 +134,10 @@ module _ (config : Configuration) (space : SpaceState) (events : List Event) whe
 
   -- ---- the sessions
 
-  begun : CameBy (opening config space).core.services.subs (opening config space).core.services.items
+  begun : CameBy (opening config space).core.services.subscriptions (opening config space).core.services.items
   begun = record { config = config; rows = []; moves = []; came = record { replied = []; left = refl } }
 
-  came : CameBy gone.world.core.services.subs gone.world.core.services.items
+  came : CameBy gone.world.core.services.subscriptions gone.world.core.services.items
   came = record { config = config; rows = rows_of_run r; moves = moves; came = went }
 
   fresh : IsFresh gone.world.core.services.sessions
@@ -152,7 +152,7 @@ module _ (config : Configuration) (space : SpaceState) (events : List Event) whe
   -- ---- items, and answers
 
   pub items_live : IfRuns ItemsAreOfLive r.server
-  items_live = seen gone ItemsAreOfLive (subst (λ (ran : Ran). AreOfLive ran.subs.table.subscriptions ran.items.items) went.left (items_of_live config moves))
+  items_live = seen gone ItemsAreOfLive (subst (λ (ran : Ran). AreOfLive ran.subscriptions.table.subscriptions ran.items.items) went.left (items_of_live config moves))
 
   pub answers_stay : AnswersStayInSessions config space events
   answers_stay before m rest is = answers_are_own config before m

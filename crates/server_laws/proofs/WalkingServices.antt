@@ -204,9 +204,9 @@ deleted_asks setting caller request state = deleted_listed_asks setting caller r
 
 -- its subscription fires a row then
 abbrev pub row_after : Setting → ℕ → Services → ItemsState → Vars → Said (Unit {0})
-row_after setting number state items before = without_answer state.subs (met (stage_of state.subs items setting.clock) number (sub_call.Items before))
+row_after setting number state items before = without_answer state.subscriptions (met (stage_of state.subscriptions items setting.clock) number (sub_call.Items before))
 
-pub asked_ran : (setting : Setting) (number : ℕ) (state : Services) (items : ItemsState) (asked : Option ItemsCall) → Asks number state.items items asked → (before : Vars) → vars_found number state.items state.subs.table ≡ Some before →
+pub asked_ran : (setting : Setting) (number : ℕ) (state : Services) (items : ItemsState) (asked : Option ItemsCall) → Asks number state.items items asked → (before : Vars) → vars_found number state.items state.subscriptions.table ≡ Some before →
     (so_far : List Fired) (replies : List Reply) → moved (ran_at state so_far replies) (Move.Items setting.clock number asked) ≡ ran_by (ran_at state so_far replies) (row_after setting number state items before)
 asked_ran setting number state items asked asks before e so_far replies =
     let from = ran_at state so_far replies in
@@ -228,10 +228,10 @@ module _ (setting : Setting) (R : Services → List Move → Serving → Type 0)
   step_taken state step replies spends is_refused = f.steps state step _ _ (f.still (stepped state step) replies spends is_refused)
 
   -- a call that answers Publish requests alone
-  one_told : (state : Services) (w : Stage) (move : Move) → ((so_far : List Fired) (replies : List Reply) → moved (ran_at state so_far replies) move ≡ ran_by (ran_at state so_far replies) (without_answer state.subs w)) →
+  one_told : (state : Services) (w : Stage) (move : Move) → ((so_far : List Fired) (replies : List Reply) → moved (ran_at state so_far replies) move ≡ ran_by (ran_at state so_far replies) (without_answer state.subscriptions w)) →
       R state (move ∷ []) (called_alone state w)
   unfolding called_alone
-  one_told state w move e = f.calls _ state no_reply (without_answer state.subs w) move e
+  one_told state w move e = f.calls _ state no_reply (without_answer state.subscriptions w) move e
 
   -- ---- ticks, and the server's end
 
@@ -312,12 +312,12 @@ module _ (setting : Setting) (R : Services → List Move → Serving → Type 0)
     publishing_listed_so : (session : ℕ) (enabled : Bool) (state : Services) (r : Result (List ℕ) Status) →
         R state (if_listed (λ (numbers : List ℕ). Move.SetMode setting.clock session numbers enabled ∷ []) r) (set_publishing_listed setting caller session enabled state r)
     publishing_listed_so session enabled state (Ok numbers) =
-        f.calls _ state (λ statuses. reply_of caller (statuses_body SET_PUBLISHING_MODE_RESPONSE setting caller statuses) ∷ []) (said state.subs (named_all session (sub_call.SetMode enabled) (stage_at setting state) numbers)) _ (λ so_far replies. refl)
+        f.calls _ state (λ statuses. reply_of caller (statuses_body SET_PUBLISHING_MODE_RESPONSE setting caller statuses) ∷ []) (said state.subscriptions (named_all session (sub_call.SetMode enabled) (stage_at setting state) numbers)) _ (λ so_far replies. refl)
     publishing_listed_so session enabled state (Err code) = refused state _
 
     deleted_so : (session : ℕ) (state : Services) (r : Result (List ℕ) Status) → R state (if_listed (λ (numbers : List ℕ). Move.Delete setting.clock session numbers ∷ []) r) (delete_subscriptions_listed setting caller session state r)
     deleted_so session state (Ok numbers) =
-        f.calls _ state (λ statuses. reply_of caller (statuses_body DELETE_SUBSCRIPTIONS_RESPONSE setting caller statuses) ∷ []) (said state.subs (deleted session (stage_at setting state) numbers)) _ (λ so_far replies. refl)
+        f.calls _ state (λ statuses. reply_of caller (statuses_body DELETE_SUBSCRIPTIONS_RESPONSE setting caller statuses) ∷ []) (said state.subscriptions (deleted session (stage_at setting state) numbers)) _ (λ so_far replies. refl)
     deleted_so session state (Err code) = refused state _
 
     publish_so : (session : ℕ) (request : PublishRequest) (state : Services) → R state (publish_moves setting caller session request state) (publish_meaning setting caller session request state)
@@ -326,17 +326,17 @@ module _ (setting : Setting) (R : Services → List Move → Serving → Type 0)
         either _ _ _ _ _ (refused state _) (one_told state (published session (publish_call caller) acks (stage_at setting state)) (Move.Publish setting.clock session (publish_call caller) acks) (λ so_far replies. refl))
 
     module _ (number : ℕ) (state : Services) (done : Itemed) (asked : Option ItemsCall) (asks : Asks number state.items done.items asked) where
-      vars_so : (found : Option Vars) → vars_found number state.items state.subs.table ≡ found → R state (items_moves_by setting number asked found) (items_called_by setting caller number state done found)
+      vars_so : (found : Option Vars) → vars_found number state.items state.subscriptions.table ≡ found → R state (items_moves_by setting number asked found) (items_called_by setting caller number state done found)
       vars_so None e = refused state _
       vars_so (Some before) e =
           f.calls _ state (λ (x : Unit {0}). reply_of caller done.body ∷ []) (row_after setting number state done.items before) (Move.Items setting.clock number asked) (asked_ran setting number state done.items asked asks before e)
 
-      own_so : (own : Bool) → R state (items_moves_by setting number asked (cond own (vars_found number state.items state.subs.table) None)) (items_called_by setting caller number state done (cond own (vars_found number state.items state.subs.table) None))
-      own_so true = vars_so (vars_found number state.items state.subs.table) refl
+      own_so : (own : Bool) → R state (items_moves_by setting number asked (cond own (vars_found number state.items state.subscriptions.table) None)) (items_called_by setting caller number state done (cond own (vars_found number state.items state.subscriptions.table) None))
+      own_so true = vars_so (vars_found number state.items state.subscriptions.table) refl
       own_so false = refused state _
 
       items_so : (session : ℕ) → R state (items_moves setting session number asked state) (items_called_by setting caller number state done (own_vars session number state))
-      items_so session = own_so (is_own state.subs.table session number)
+      items_so session = own_so (is_own state.subscriptions.table session number)
 
   -- ---- all services
 
@@ -407,12 +407,12 @@ module _ (setting : Setting) (R : Services → List Move → Serving → Type 0)
     picked_so writes fields (Some Service.SetMonitoringMode) = by_items (λ (r : SetMonitoringModeRequest). r.subscription_id) items_moded mode_asked (moded_asks setting caller) (fields_of set_monitoring_mode_request_reading fields)
     picked_so writes fields (Some Service.SetTriggering) = by_items (λ (r : SetTriggeringRequest). r.subscription_id) items_linked link_asked (linked_asks setting caller) (fields_of set_triggering_request_reading fields)
     picked_so writes fields (Some Service.DeleteMonitoredItems) = by_items (λ (r : DeleteMonitoredItemsRequest). r.subscription_id) items_deleted delete_asked (deleted_asks setting caller) (fields_of delete_monitored_items_request_reading fields)
-    picked_so writes fields (Some Service.CreateSubscription) = by_session create_subscription_meaning (create_subscription_moves setting) (λ session request after. f.calls _ after (λ answer. reply_of caller (create_subscription_body setting caller answer) ∷ []) (created session (settings_asked request) request.publishing_enabled after.subs after.items setting.clock) _ (λ so_far replies. refl)) (fields_of create_subscription_request_reading fields)
-    picked_so writes fields (Some Service.ModifySubscription) = by_session modify_subscription_meaning (modify_subscription_moves setting) (λ session request after. f.calls _ after (λ answer. reply_of caller (modify_subscription_body setting caller answer) ∷ []) (said after.subs (modified session request.subscription_id (settings_wanted request) (stage_at setting after))) _ (λ so_far replies. refl)) (fields_of modify_subscription_request_reading fields)
+    picked_so writes fields (Some Service.CreateSubscription) = by_session create_subscription_meaning (create_subscription_moves setting) (λ session request after. f.calls _ after (λ answer. reply_of caller (create_subscription_body setting caller answer) ∷ []) (created session (settings_asked request) request.publishing_enabled after.subscriptions after.items setting.clock) _ (λ so_far replies. refl)) (fields_of create_subscription_request_reading fields)
+    picked_so writes fields (Some Service.ModifySubscription) = by_session modify_subscription_meaning (modify_subscription_moves setting) (λ session request after. f.calls _ after (λ answer. reply_of caller (modify_subscription_body setting caller answer) ∷ []) (said after.subscriptions (modified session request.subscription_id (settings_wanted request) (stage_at setting after))) _ (λ so_far replies. refl)) (fields_of modify_subscription_request_reading fields)
     picked_so writes fields (Some Service.SetPublishingMode) = by_session set_publishing_mode_meaning (set_publishing_mode_moves setting) (λ session request after. publishing_listed_so caller session request.publishing_enabled after (operations_of setting.config request.subscription_ids)) (fields_of set_publishing_mode_request_reading fields)
     picked_so writes fields (Some Service.DeleteSubscriptions) = by_session delete_subscriptions_meaning (delete_subscriptions_moves setting) (λ session request after. deleted_so caller session after (operations_of setting.config request.subscription_ids)) (fields_of delete_subscriptions_request_reading fields)
     picked_so writes fields (Some Service.Publish) = by_session publish_meaning (publish_moves setting caller) (publish_so caller) (fields_of publish_request_reading fields)
-    picked_so writes fields (Some Service.Republish) = by_session republish_meaning (republish_moves setting) (λ session request after. f.calls _ after (λ answer. reply_of caller (republish_answer setting caller answer) ∷ []) (said after.subs (republished session request.subscription_id request.retransmit_sequence_number (stage_at setting after))) _ (λ so_far replies. refl)) (fields_of republish_request_reading fields)
+    picked_so writes fields (Some Service.Republish) = by_session republish_meaning (republish_moves setting) (λ session request after. f.calls _ after (λ answer. reply_of caller (republish_answer setting caller answer) ∷ []) (said after.subscriptions (republished session request.subscription_id request.retransmit_sequence_number (stage_at setting after))) _ (λ so_far replies. refl)) (fields_of republish_request_reading fields)
     picked_so writes fields None = refused state _
 
   by_header : OfWrites → (request : Request) (state : Services) (id : Result ℕ TakeFault) (headed : Result Headed TakeFault) → R state (serving_moves_by setting request state id headed) (serving_by setting request state id headed)

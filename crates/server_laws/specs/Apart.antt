@@ -37,7 +37,7 @@ pub record SessionsStay (session : ℕ) (before after : SessionsState) : Type 0 
 -- of none, with all counters, messages and numbers, and the items of those; and none appears there
 pub record LeavesOthers (session : ℕ) (before after : Services) : Type 0 where
   pub sessions : SessionsStay session before.sessions after.sessions
-  pub rest : OthersStay session before.subs.table before.items after.subs.table after.items
+  pub rest : OthersStay session before.subscriptions.table before.items after.subscriptions.table after.items
 
 -- the values that a Write accepts, with their nodes, in the order of its list
 abbrev pub accepted_listed : Setting → Services → Result (List WriteValue) Status → List Change
@@ -67,7 +67,7 @@ accepted setting request state = accepted_by setting request state (headed_of re
 -- it accepts, and nothing else of them changes
 pub record SamplesItems (session : ℕ) (changed : List Change) (before after : Services) : Type 0 where
   pub sessions : SessionsStay session before.sessions after.sessions
-  pub subs : after.subs ≡ before.subs
+  pub subscriptions : after.subscriptions ≡ before.subscriptions
   pub items : after.items ≡ sampled before.items changed
 
 abbrev pub is_write_service : Option Service → Bool

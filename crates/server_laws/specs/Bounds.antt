@@ -25,10 +25,10 @@ pub record KeepsFewSubscriptions (config : Configuration) (world : World) : Type
   pub queues : let items : ItemsState = world.core.services.items in QueuesAreWithin config items.items
   pub items : let items : ItemsState = world.core.services.items in ItemsAreWithin config items.items
   pub all_items : let items : ItemsState = world.core.services.items in AllItemsAreWithin config items.items
-  pub requests : let subs : SubscriptionsState = world.core.services.subs in RequestsAreWithin config subs.table
-  pub subscriptions : let subs : SubscriptionsState = world.core.services.subs in SubscriptionsAreWithin config subs.table
-  pub all_subscriptions : let subs : SubscriptionsState = world.core.services.subs in AllSubscriptionsAreWithin config subs.table
-  pub kept : let subs : SubscriptionsState = world.core.services.subs in KeptAreWithin config subs.table
+  pub requests : let state : SubscriptionsState = world.core.services.subscriptions in RequestsAreWithin config state.table
+  pub subscriptions : let state : SubscriptionsState = world.core.services.subscriptions in SubscriptionsAreWithin config state.table
+  pub all_subscriptions : let state : SubscriptionsState = world.core.services.subscriptions in AllSubscriptionsAreWithin config state.table
+  pub kept : let state : SubscriptionsState = world.core.services.subscriptions in KeptAreWithin config state.table
 
 -- ---- sessions
 

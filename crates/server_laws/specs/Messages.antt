@@ -31,7 +31,7 @@ KeepsWhatWasMade made world = (number wanted : ℕ) (bytes : List ℕ) → kept_
 -- and what Republish gives, whenever and to whichever session, is so, too
 abbrev pub GivesAgainWhatWasMade : List Made → World → Type 0
 GivesAgainWhatWasMade made world = (clock : Moment) (session number wanted : ℕ) (bytes : List ℕ) → let services : Services = world.core.services in
-    (republished session number wanted (stage_of services.subs services.items clock)).answer ≡ Ok bytes →
+    (republished session number wanted (stage_of services.subscriptions services.items clock)).answer ≡ Ok bytes →
     IsAmong (record { number = wanted; bytes = bytes }) (messages_for number made)
 
 -- under each number that it shows it keeps a message

@@ -88,7 +88,7 @@ pub record IsBrought (config : Configuration) (space : SpaceState) (events : Lis
   pub notes : IsMadeOf b.message b.taken
   pub kept : IsAlone b.message (made_by config space events) → (bytes : List ℕ) → kept_on (Some world) b.message.subscription b.message.message.number ≡ Some bytes → bytes ≡ b.message.message.bytes
   pub republished : IsAlone b.message (made_by config space events) → (clock : Moment) (session : ℕ) (bytes : List ℕ) → let services : Services = world.core.services in
-      (republished session b.message.subscription b.message.message.number (stage_of services.subs services.items clock)).answer ≡ Ok bytes → bytes ≡ b.message.message.bytes
+      (republished session b.message.subscription b.message.message.number (stage_of services.subscriptions services.items clock)).answer ≡ Ok bytes → bytes ≡ b.message.message.bytes
 
 -- ---- why a value is gone
 

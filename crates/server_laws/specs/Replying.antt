@@ -21,7 +21,7 @@ use Rattle.server_core.specs.declared.parts.Core.{Core}
 
 -- a serving goes on by these calls, from where earlier ones led, and each message that they make is brought by a reply of its own
 pub record BringsItsMessages (from : Ran) (moves : List Move) (s : Serving) : Type 0 where
-  pub went : let state : Services = s.state in WentOn from moves state.subs state.items (rows_of s.occurrences) s.replies
+  pub went : let state : Services = s.state in WentOn from moves state.subscriptions state.items (rows_of s.occurrences) s.replies
   pub brought : AreBrought s.replies (run_made from moves)
 
 -- so it is with the next request, whatever it asks, and with the next tick, whenever it comes

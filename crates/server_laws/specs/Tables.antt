@@ -39,23 +39,23 @@ rows_of_run r = fired_of (joined_effects r.steps)
 
 -- of the subscriptions of a server, if it isn't halted
 abbrev pub IfShown : (TableState → Type 0) → Option World → Type 0
-IfShown P server = IfRuns (λ (world : World). let subs : SubscriptionsState = world.core.services.subs in P subs.table) server
+IfShown P server = IfRuns (λ (world : World). let state : SubscriptionsState = world.core.services.subscriptions in P state.table) server
 
 -- these calls lead from none to the subscriptions and items of a server, and fire these rows
 pub record LeadTo (config : Configuration) (moves : List Move) (rows : List Fired) (world : World) : Type 0 where
-  pub subs : let services : Services = world.core.services in (run config moves).subs ≡ services.subs
+  pub subscriptions : let services : Services = world.core.services in (run config moves).subscriptions ≡ services.subscriptions
   pub items : let services : Services = world.core.services in (run config moves).items ≡ services.items
   pub fired : (run config moves).rows ≡ rows
 
 -- each live subscription is steady, with the counts that the rows tell
 abbrev pub StaysSteady : List Fired → World → Type 0
-StaysSteady rows world = let services : Services = world.core.services in AreSteady services.subs.table services.items rows
+StaysSteady rows world = let services : Services = world.core.services in AreSteady services.subscriptions.table services.items rows
 
 -- and its variables are sound
 abbrev pub VariablesAreSound : World → Type 0
 VariablesAreSound world =
     let services : Services = world.core.services in
-    let t : TableState = services.subs.table in
+    let t : TableState = services.subscriptions.table in
     (number : ℕ) (s : Subscription) → subscription_at number t.subscriptions ≡ Some s → IsSound (vars_of s (part_of s.session t.sessions) services.items number)
 
 -- each row that fired, with those before it
@@ -90,7 +90,7 @@ NoneTimesOutBesideARequest rows = OfEachRow (λ before f. f.row ≡ G6 → (f.be
 
 -- each monitored item is of a live subscription
 abbrev pub ItemsAreOfLive : World → Type 0
-ItemsAreOfLive world = let services : Services = world.core.services in AreOfLive services.subs.table.subscriptions services.items.items
+ItemsAreOfLive world = let services : Services = world.core.services in AreOfLive services.subscriptions.table.subscriptions services.items.items
 
 -- once the server was shut down, there is none
 abbrev pub IsEmptyOnceShut : World → Type 0

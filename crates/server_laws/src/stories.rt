@@ -119,8 +119,8 @@ pub fn a_time_out_one_timer_late()
 /// A request waits in a session beside a subscription that waits for one.
 pub fn a_request_left_beside_a_waiting_subscription()
     ensures { (config : Configuration) (space : SpaceState) (events : List Event) (world : World) (number session : ℕ) (s : Subscription) →
-        (reached config space events).server ≡ Some world → subscription_at number world.core.services.subs.table.subscriptions ≡ Some s →
-        s.session ≡ Some session → is_waiting s ≡ true → (part_at session world.core.services.subs.table.sessions).requests ≢ [] → ⊥ }
+        (reached config space events).server ≡ Some world → subscription_at number world.core.services.subscriptions.table.subscriptions ≡ Some s →
+        s.session ≡ Some session → is_waiting s ≡ true → (part_at session world.core.services.subscriptions.table.sessions).requests ≢ [] → ⊥ }
 {
     table();
 }
@@ -138,7 +138,7 @@ pub fn an_answer_across_sessions()
 pub fn a_timer_passed_over()
     ensures { (config : Configuration) (space : SpaceState) (events : List Event) (before : List Move) (clock : Moment) (rest : List Move) (number : ℕ) (s : Subscription) →
         before ++ Move.Timers clock ∷ rest ≡ moves_of config space events → let r = run config before in
-        subscription_at number r.subs.table.subscriptions ≡ Some s → is_due clock s ≡ true → is_listed number (map subscription_of (concerned r (Move.Timers clock))) ≡ false → ⊥ }
+        subscription_at number r.subscriptions.table.subscriptions ≡ Some s → is_due clock s ≡ true → is_listed number (map subscription_of (concerned r (Move.Timers clock))) ≡ false → ⊥ }
 {
     table();
 }
@@ -146,8 +146,8 @@ pub fn a_timer_passed_over()
 /// Two subscriptions of a session wait, and a Publish request comes to the one that comes second.
 pub fn the_second_best_answers()
     ensures { (config : Configuration) (space : SpaceState) (events : List Event) (before : List Move) (clock : Moment) (session : ℕ) (asked : PublishCall) (acks : List SubscriptionAcknowledgement) (rest : List Move) (first second : ℕ) (s t : Subscription) (c : Concern) →
-        before ++ Move.Publish clock session asked acks ∷ rest ≡ moves_of config space events → let r = run config before in let live = r.subs.table.subscriptions in
-        note_of session r.subs.table.sessions ≡ None → subscription_at first live ≡ Some s → WaitsIn session first s → subscription_at second live ≡ Some t →
+        before ++ Move.Publish clock session asked acks ∷ rest ≡ moves_of config space events → let r = run config before in let live = r.subscriptions.table.subscriptions in
+        note_of session r.subscriptions.table.sessions ≡ None → subscription_at first live ≡ Some s → WaitsIn session first s → subscription_at second live ≡ Some t →
         precedence (rank_of first s) (rank_of second t) ≡ Less → first ≢ second → concerned r (Move.Publish clock session asked acks) ≡ c ∷ [] → c.subscription ≡ second → ⊥ }
 {
     table();

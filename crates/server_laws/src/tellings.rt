@@ -37,7 +37,7 @@ pub fn answers_are_told()
 /// oldest note, of the subscription that timed out, beside what became of the acknowledgements, with no more to come.
 pub fn time_outs_are_noted()
     ensures { (setting : Setting) (caller : Caller) (session : ℕ) (acks : List SubscriptionAcknowledgement) (state : Services) (note : TimeoutNote) →
-        nat_lt setting.config.operations (length acks) ≡ false → note_of session state.subs.table.sessions ≡ Some note →
+        nat_lt setting.config.operations (length acks) ≡ false → note_of session state.subscriptions.table.sessions ≡ Some note →
         (publish_acknowledged setting caller session state acks).replies
-        ≡ published_of setting.clock (with_results (publish_call caller) (acknowledged_all session state.subs.table.subscriptions acks).results) note.subscription [] false (timeout_message note.number setting.clock) ∷ [] }
+        ≡ published_of setting.clock (with_results (publish_call caller) (acknowledged_all session state.subscriptions.table.subscriptions acks).results) note.subscription [] false (timeout_message note.number setting.clock) ∷ [] }
 {}

@@ -10,7 +10,7 @@ use Rattle.server_messages.specs.declared.out.Out.TheVariants.{Send, Close}
 use Rattle.socket_peers.specs.declared.peer.Heard.{Heard}
 use Rattle.socket_peers.specs.declared.peer.Heard.TheVariants.{Nothing}
 use Rattle.socket_peers.specs.declared.peer.Readiness.{Readiness}
-use Rattle.socket_peers.specs.declared.limits.Limits.{Limits}
+use Rattle.socket_peers.specs.declared.peer_limits.PeerLimits.{PeerLimits}
 use Rattle.socket_peers.specs.Socket.{Calls}
 use Rattle.socket_peers.specs.Tally.{Counts, count_of, one_more, one_less}
 use Rattle.socket_peers.specs.Peer.{PeerState, peer_code, owing, closing, ready, awake_if, fresh, departs, departed, is_done, is_over, is_silent, Reads, Loses, Flushes}
@@ -23,7 +23,7 @@ pub record PeersState (S : Type 0) : Type 0 where
   pub last : ℕ
   pub awake : List ℕ
   pub touched : List ℕ
-  pub limits : Limits
+  pub limits : PeerLimits
   pub tally : Counts
   pub clock : Moment
   pub swept : Moment
@@ -51,7 +51,7 @@ module _ {S : Type 0} where
       (λ _. refl)
 
   -- nobody yet, at a moment that isn't given
-  abbrev pub nobody : Limits → PeersState S
+  abbrev pub nobody : PeerLimits → PeersState S
   nobody limits = record {
     connected = empty;
     last = 0;

@@ -9,20 +9,20 @@
 //!
 //! What a contract sees: of a [`Peer`] its stream, the bytes it is owed, whether it closes, failed, is full or
 //! is to be looked at, when it was last owed something, and its client's address as a number; of [`Peers`] these under
-//! their numbers, the last number, the lists of those to be looked at and to be flushed, the [`Limits`], how many there
+//! their numbers, the last number, the lists of those to be looked at and to be flushed, the [`PeerLimits`], how many there
 //! are of each address, the moment that was told last, and that at which silent sockets were last looked for. How a
 //! connection ended ([`End`]) no contract sees.
 #![tactic(auto)]
 
 mod end;
-mod limits;
 mod peer;
+mod peer_limits;
 mod peers;
 mod socket;
 mod tally;
 
 pub use end::End;
-pub use limits::Limits;
 pub use peer::{Heard, Peer, Readiness};
+pub use peer_limits::PeerLimits;
 pub use peers::Peers;
 pub use socket::{Missed, Socket};

@@ -5,7 +5,7 @@ ghost use Rattle.std.specs.FinMap as map;
 ghost use Rattle.socket_peers.specs.Peers.{nobody, number_after, with_joined, without, at_time, is_crowded as is_crowded_spec, is_sweep_due as is_sweep_due_spec, swept_now, is_owed_at, numbers_of, listed_if, woken_if, reported, owed_out, owed_all, Departs, LetsGo, Expires, ReadsAt, LosesAt, FlushesAt, LooksAt, FlushesAll};
 
 use crate::end::End;
-use crate::limits::Limits;
+use crate::peer_limits::PeerLimits;
 use crate::peer::{Heard, Peer, Readiness};
 use crate::socket::Socket;
 use crate::tally::Tally;
@@ -38,7 +38,7 @@ pub struct Peers<S> {
     // Sockets that were owed something or closed since all were flushed.
     touched: Vec<u64>,
     // What is asked of each.
-    limits: Limits,
+    limits: PeerLimits,
     // How many there are of each address.
     tally: Tally,
     // The moment that was told last. 0 before the first.
@@ -72,7 +72,7 @@ impl<S> Model for Peers<S> {
 
 impl<S> Peers<S> {
     /// None yet. Takes no memory.
-    pub fn new(alloc: Global, limits: Limits) -> Peers<S>
+    pub fn new(alloc: Global, limits: PeerLimits) -> Peers<S>
         ensures { result ≡ nobody limits }
     {
         Peers {

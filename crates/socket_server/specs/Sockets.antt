@@ -8,7 +8,7 @@ use Rattle.mio.specs.declared.net.stream.TcpStream.{TcpStream}
 use Rattle.rand_core.specs.Stream.{Stream}
 use Rattle.rand_core.specs.Steps.{stream_of, steps_u32}
 use Rattle.rand_chacha.specs.ChaCha.{ChaCha, next_word}
-use Rattle.socket_peers.specs.declared.limits.Limits.{Limits}
+use Rattle.socket_peers.specs.declared.peer_limits.PeerLimits.{PeerLimits}
 use Rattle.socket_peers.specs.Peers.{PeersState, peers_code, nobody}
 
 -- the address and the port that it was asked to listen at, the generator of keys, whether a socket may have connected that isn't taken
@@ -44,14 +44,14 @@ abbrev pub ServeState : Type 0
 ServeState = Sockets TcpStream
 
 -- it was asked to listen there, for sockets that keep to these limits, and nobody has connected yet
-abbrev pub unserved : IpAddr → ℕ → Limits → ChaCha → ServeState
+abbrev pub unserved : IpAddr → ℕ → PeerLimits → ChaCha → ServeState
 unserved address port limits keys = record { address = address; port = port; keys = keys; may_accept = true; peers = nobody limits; events = 0 }
 
-abbrev pub IsUnserved : IpAddr → ℕ → Limits → ServeState → Type 0
+abbrev pub IsUnserved : IpAddr → ℕ → PeerLimits → ServeState → Type 0
 IsUnserved address port limits sockets = sockets ≡ unserved address port limits sockets.keys
 
 -- no limits
-abbrev pub unlimited : Limits
+abbrev pub unlimited : PeerLimits
 unlimited = record { idle = 0; per_address = 0 }
 
 -- The bits of an address, 128 of them, of which one of 32 bits has the last 32, behind ::ffff:0:0, as where a socket of the longer form

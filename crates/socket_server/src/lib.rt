@@ -5,7 +5,7 @@
 //! puts what the server sends into the queues of the sockets, and writes what they take. What the server stores is kept
 //! by a [`server_messages::Keeper`] ([`KeptServer`]) before anything goes out that it sent then or later. An [`Observer`] is
 //! told what is sent and which rows of the subscriptions' state table fire at each event, which connections come and go, and when
-//! a turn is over. An [`Until`] says when to stop, and [`Limits`] what is asked of each socket.
+//! a turn is over. An [`Until`] says when to stop, and [`PeerLimits`] what is asked of each socket.
 //!
 //! Only `src/serve.rt` knows of `mio`. What a turn is made of stands in `src/events.rt`, over any stream
 //! whose reads and writes don't wait, so that contracts can name the bytes. `docs/USING.md` has the loop as
@@ -27,5 +27,5 @@ pub use kept_server::KeptServer;
 pub use observer::{Observer, Unobserved};
 pub use serve::Serve;
 pub use serve_fault::ServeFault;
-pub use socket_peers::{End, Limits};
+pub use socket_peers::{End, PeerLimits};
 pub use until::{Turns, Until};

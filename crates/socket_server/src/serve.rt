@@ -26,7 +26,7 @@ use rand::rngs::StdRng;
 use rand_core::Rng;
 use server_core::Event as ServerEvent;
 use server_messages::Keeper;
-use socket_peers::{Limits, Peers, Readiness};
+use socket_peers::{PeerLimits, Peers, Readiness};
 use std::alloc::{AllocError, Global};
 use std::io;
 use std::io::ErrorKind;
@@ -192,7 +192,7 @@ impl Serve {
             alloc,
             IpAddr::V4(Ipv4Addr::LOCALHOST),
             port,
-            Limits::NONE,
+            PeerLimits::NONE,
         )
     }
 
@@ -203,7 +203,7 @@ impl Serve {
         alloc: Global,
         address: IpAddr,
         port: u16,
-        limits: Limits,
+        limits: PeerLimits,
     ) -> Result<Serve, ServeFault>
         ensures ok { IfOk result (IsUnserved address port limits) }
         ensures err { IfErr result IsOutside }

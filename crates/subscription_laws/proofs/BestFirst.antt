@@ -248,9 +248,9 @@ module _ (asked : Call) where
 pub each_is_met : (config : Configuration) (moves : List Move) (clock : Moment) → ComesBestFirst (run config moves) clock
 each_is_met config moves clock =
     let r = run config moves in
-    let subscriptions = r.subs.table.subscriptions in
+    let subscriptions = r.subscriptions.table.subscriptions in
     let h = all_best_first subscriptions (due_of clock subscriptions) (IsDueAt clock) (all_due clock subscriptions (sessions_list config moves).subscriptions) in
-    subst (AreAllBestFirst (IsDueAt clock) subscriptions) (sym (all_numbered call.Timer (IsDueAt clock) subscriptions (due_numbers clock subscriptions) (stage_of r.subs r.items clock) h (λ m s found due. ap is_some found))) h
+    subst (AreAllBestFirst (IsDueAt clock) subscriptions) (sym (all_numbered call.Timer (IsDueAt clock) subscriptions (due_numbers clock subscriptions) (stage_of r.subscriptions r.items clock) h (λ m s found due. ap is_some found))) h
 
 -- ---- a Publish request is given to the best that waits
 
@@ -323,7 +323,7 @@ asked_best (n ∷ ns) asked w rank ranks e =
 
 module _ (config : Configuration) (moves : List Move) (clock : Moment) (session : ℕ) (asked : PublishCall) (acks : List SubscriptionAcknowledgement) where
   abbrev w : Stage
-  w = stage_of (run config moves).subs (run config moves).items clock
+  w = stage_of (run config moves).subscriptions (run config moves).items clock
 
   abbrev v : Stage
   v = ready session acks w

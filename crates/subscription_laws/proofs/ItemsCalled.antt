@@ -115,7 +115,7 @@ unfolding added fired row_done
 items_added session number settings enabled w = refl
 
 pub items_making : FollowsMaking ItemsCome
-items_making = record { refuses = items_refused; adds = λ r clock session settings enabled room. items_added session (r.subs.made + 1) settings enabled (stage_of r.subs r.items clock) }
+items_making = record { refuses = items_refused; adds = λ r clock session settings enabled room. items_added session (r.subscriptions.made + 1) settings enabled (stage_of r.subscriptions r.items clock) }
 
 pub one_is : (r : Ran) (m : Move) → (moved r m).items ≡ after_calls r.items (calls_of r m)
 one_is r m = (left_is r m).items ∙ walked Any ItemsCome follows_items items_making r m (any_begins r m)

@@ -242,23 +242,23 @@ follows_lively = record {
 }
 
 lively_making : FollowsMaking StaysLively
-lively_making = record { refuses = refused_lively; adds = λ r clock session settings enabled room. added_lively session (r.subs.made + 1) settings enabled (stage_of r.subs r.items clock) }
+lively_making = record { refuses = refused_lively; adds = λ r clock session settings enabled room. added_lively session (r.subscriptions.made + 1) settings enabled (stage_of r.subscriptions r.items clock) }
 
-one_call : (r : Ran) (m : Move) → IsLively r.subs.table.subscriptions r.items → IsLively (moved r m).subs.table.subscriptions (moved r m).items
+one_call : (r : Ran) (m : Move) → IsLively r.subscriptions.table.subscriptions r.items → IsLively (moved r m).subscriptions.table.subscriptions (moved r m).items
 one_call r m h =
     let is = left_is r m in
     subst (λ (t : TableState). IsLively t.subscriptions (moved r m).items) (sym is.table)
     (subst (IsLively (left r m).table.subscriptions) (sym is.items) (walked Any StaysLively follows_lively lively_making r m (any_begins r m) h))
 
-run_lively : (config : Configuration) (moves : List Move) → IsLively (run config moves).subs.table.subscriptions (run config moves).items
-run_lively config moves = fold_keeps (λ (r : Ran). IsLively r.subs.table.subscriptions r.items) moved one_call moves (start config) (record {
+run_lively : (config : Configuration) (moves : List Move) → IsLively (run config moves).subscriptions.table.subscriptions (run config moves).items
+run_lively config moves = fold_keeps (λ (r : Ran). IsLively r.subscriptions.table.subscriptions r.items) moved one_call moves (start config) (record {
   live = λ n s at_n. absurd (cc);
   rising = tt;
   reached = (run_kept config []).calm.reached;
   owned = λ m item at_m. absurd (cc);
 })
 
-pub items_of_live : (config : Configuration) (moves : List Move) → let r = run config moves in AreOfLive r.subs.table.subscriptions r.items.items
+pub items_of_live : (config : Configuration) (moves : List Move) → let r = run config moves in AreOfLive r.subscriptions.table.subscriptions r.items.items
 items_of_live config moves = (run_lively config moves).owned
 
 pub none_after_shutdown : (config : Configuration) (moves : List Move) (clock : Moment) (number : ℕ) → item_at number (moved (run config moves) (Move.Shutdown clock)).items.items ≡ None
@@ -273,6 +273,6 @@ none_after_shutdown config moves clock number = by (item_at number after.items.i
     by : (o : Option Item) → item_at number (moved (run config moves) (Move.Shutdown clock)).items.items ≡ o → o ≡ None
     by None e = refl
     by (Some item) e =
-        let h : IsLively (moved (run config moves) (Move.Shutdown clock)).subs.table.subscriptions (moved (run config moves) (Move.Shutdown clock)).items = one_call (run config moves) (Move.Shutdown clock) (run_lively config moves) in
+        let h : IsLively (moved (run config moves) (Move.Shutdown clock)).subscriptions.table.subscriptions (moved (run config moves) (Move.Shutdown clock)).items = one_call (run config moves) (Move.Shutdown clock) (run_lively config moves) in
         let none : is_some (subscription_at item.subscription []) ≡ true = ap (λ (t : TableState). is_some (subscription_at item.subscription t.subscriptions)) (sym (none_is_left config moves clock)) ∙ h.owned number item e in
         absurd (cc)

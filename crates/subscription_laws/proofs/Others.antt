@@ -191,20 +191,20 @@ refused_others session asked enabled w = subst (OthersStay session w.table w.ite
 -- ---- any request
 
 abbrev Stays : ℕ → Ran → Ran → Type 0
-Stays session r after = OthersStay session r.subs.table r.items after.subs.table after.items
+Stays session r after = OthersStay session r.subscriptions.table r.items after.subscriptions.table after.items
 
-created_stays : (r : Ran) (clock : Moment) (session : ℕ) (settings : Settings) (enabled : Bool) → ((n : ℕ) (s : Subscription) → subscription_at n r.subs.table.subscriptions ≡ Some s → n ≤ r.subs.made) →
-    Stays session r (ran_by r (created session settings enabled r.subs r.items clock))
+created_stays : (r : Ran) (clock : Moment) (session : ℕ) (settings : Settings) (enabled : Bool) → ((n : ℕ) (s : Subscription) → subscription_at n r.subscriptions.table.subscriptions ≡ Some s → n ≤ r.subscriptions.made) →
+    Stays session r (ran_by r (created session settings enabled r.subscriptions r.items clock))
 unfolding created refused created_one
 created_stays r clock session settings enabled given =
-    let w = stage_of r.subs r.items clock in
-    either (λ s. Stays session r (ran_by r s)) (is_full r.subs session) (refused session settings enabled r.subs w) (created_one session settings enabled r.subs w)
-    (refused_others session settings enabled w) (added_others session r.subs.made settings enabled w given)
+    let w = stage_of r.subscriptions r.items clock in
+    either (λ s. Stays session r (ran_by r s)) (is_full r.subscriptions session) (refused session settings enabled r.subscriptions w) (created_one session settings enabled r.subscriptions w)
+    (refused_others session settings enabled w) (added_others session r.subscriptions.made settings enabled w given)
 
-begins_apart : (r : Ran) (clock : Moment) (session : ℕ) → IsRunKept r → IsApart session r.subs.table r.items (stage_of r.subs r.items clock)
+begins_apart : (r : Ran) (clock : Moment) (session : ℕ) → IsRunKept r → IsApart session r.subscriptions.table r.items (stage_of r.subscriptions r.items clock)
 begins_apart r clock session k = record {
   parts = λ j other. refl;
-  subscriptions = record { own = λ m s its found. inl (found_own session (subscription_at m r.subs.table.subscriptions) s found its); others = λ m foreign. refl; rising = k.calm.listed.subscriptions };
+  subscriptions = record { own = λ m s its found. inl (found_own session (subscription_at m r.subscriptions.table.subscriptions) s found its); others = λ m foreign. refl; rising = k.calm.listed.subscriptions };
   monitored = record { stay = λ m item found foreign. found; none_comes = λ m item found foreign. found; reached = k.calm.reached };
 }
 
@@ -229,11 +229,11 @@ apart_stays session t items w h = record {
         left (inl mine) = absurd (other mine)
         left (inr none) = none
 
-lists_its : (r : Ran) (session : ℕ) → IsRunKept r → (m : ℕ) → is_listed m (part_at session r.subs.table.sessions).numbers ≡ true → is_own r.subs.table session m ≡ true
+lists_its : (r : Ran) (session : ℕ) → IsRunKept r → (m : ℕ) → is_listed m (part_at session r.subscriptions.table.sessions).numbers ≡ true → is_own r.subscriptions.table session m ≡ true
 lists_its r session k m listed = by (k.own session m listed)
   where
-    by : (s : Subscription) × (subscription_at m r.subs.table.subscriptions ≡ Some s) × (s.session ≡ Some session) → is_own r.subs.table session m ≡ true
-    by (s, found, mine) = own_found session (subscription_at m r.subs.table.subscriptions) s found mine
+    by : (s : Subscription) × (subscription_at m r.subscriptions.table.subscriptions ≡ Some s) × (s.session ≡ Some session) → is_own r.subscriptions.table session m ≡ true
+    by (s, found, mine) = own_found session (subscription_at m r.subscriptions.table.subscriptions) s found mine
 
 -- what is done beside is the session's
 abbrev IsIts : ℕ → TableState → Beside → Type 0
@@ -298,22 +298,22 @@ module _ (session : ℕ) (t : TableState) (items : ItemsState) where
     one = λ whose asked w n ns s plain given meant found its h. live_apart session t items w n asked s (met_its whose asked w n ns given meant h) found h;
   }
 
-plain_stays : (session : ℕ) (r : Ran) (m : Move) → makes m ≡ false → IsRunKept r → DoneBy (IsIts session r.subs.table) m → Begins (GivenIts session r.subs.table) r m → Stays session r (moved r m)
+plain_stays : (session : ℕ) (r : Ran) (m : Move) → makes m ≡ false → IsRunKept r → DoneBy (IsIts session r.subscriptions.table) m → Begins (GivenIts session r.subscriptions.table) r m → Stays session r (moved r m)
 plain_stays session r m plain k done given =
-    let t = r.subs.table in
+    let t = r.subscriptions.table in
     let h = walked_on (GivenIts session t) (StaysApart session t r.items) (follows_apart session t r.items) r m plain given (each_done (IsIts session t) r m done) (begins_apart r (clock_of m) session k) in
     let is = left_is r m in
     subst (λ (after : TableState). OthersStay session t r.items after (moved r m).items) (sym is.table) (subst (OthersStay session t r.items (left r m).table) (sym is.items) (apart_stays session t r.items (left r m) h))
 
 -- those that a Publish request of the session comes to
-asked_its : (r : Ran) (clock : Moment) (session : ℕ) (acks : List SubscriptionAcknowledgement) → IsRunKept r → let v = ready session acks (stage_of r.subs r.items clock) in
-    AllByRecursion (λ (n : ℕ). is_own r.subs.table session n ≡ true) (asked_numbers v (part_at session v.table.sessions).numbers)
+asked_its : (r : Ran) (clock : Moment) (session : ℕ) (acks : List SubscriptionAcknowledgement) → IsRunKept r → let v = ready session acks (stage_of r.subscriptions r.items clock) in
+    AllByRecursion (λ (n : ℕ). is_own r.subscriptions.table session n ≡ true) (asked_numbers v (part_at session v.table.sessions).numbers)
 asked_its r clock session acks k =
-    let v = ready session acks (stage_of r.subs r.items clock) in
-    asked_are (λ (n : ℕ). is_own r.subs.table session n ≡ true) v (part_at session v.table.sessions).numbers
-    (listed_are (λ (n : ℕ). is_own r.subs.table session n ≡ true) (part_at session v.table.sessions).numbers (λ m listed. lists_its r session k m (sym (ap (is_listed m) (same_numbers session r.subs.table.sessions)) ∙ listed)))
+    let v = ready session acks (stage_of r.subscriptions r.items clock) in
+    asked_are (λ (n : ℕ). is_own r.subscriptions.table session n ≡ true) v (part_at session v.table.sessions).numbers
+    (listed_are (λ (n : ℕ). is_own r.subscriptions.table session n ≡ true) (part_at session v.table.sessions).numbers (λ m listed. lists_its r session k m (sym (ap (is_listed m) (same_numbers session r.subscriptions.table.sessions)) ∙ listed)))
 
-request_stays : (r : Ran) (m : Move) (session : ℕ) → IsRunKept r → ((n : ℕ) (s : Subscription) → subscription_at n r.subs.table.subscriptions ≡ Some s → n ≤ r.subs.made) → IsRequestOf session r.subs.table m → Stays session r (moved r m)
+request_stays : (r : Ran) (m : Move) (session : ℕ) → IsRunKept r → ((n : ℕ) (s : Subscription) → subscription_at n r.subscriptions.table.subscriptions ≡ Some s → n ≤ r.subscriptions.made) → IsRequestOf session r.subscriptions.table m → Stays session r (moved r m)
 request_stays r (Move.Create clock own settings enabled) session k given is = let m = Move.Create clock own settings enabled in subst (λ (i : ℕ). Stays i r (moved r m)) is (created_stays r clock own settings enabled given)
 request_stays r (Move.Modify clock own number settings) session k given is = let m = Move.Modify clock own number settings in subst (λ (i : ℕ). Stays i r (moved r m)) is (plain_stays own r m refl k tt (inl refl))
 request_stays r (Move.SetMode clock own numbers enabled) session k given is = let m = Move.SetMode clock own numbers enabled in subst (λ (i : ℕ). Stays i r (moved r m)) is (plain_stays own r m refl k tt (inl refl))
@@ -325,13 +325,13 @@ request_stays r (Move.Republish clock own number wanted) session k given is = le
 request_stays r (Move.EndSession clock own deleting) session k given is =
     let m = Move.EndSession clock own deleting in
     subst (λ (i : ℕ). Stays i r (moved r m)) is
-    (plain_stays own r m refl k (refl, refl) (inr (listed_are (λ (n : ℕ). is_own r.subs.table own n ≡ true) (part_at own r.subs.table.sessions).numbers (lists_its r own k))))
+    (plain_stays own r m refl k (refl, refl) (inr (listed_are (λ (n : ℕ). is_own r.subscriptions.table own n ≡ true) (part_at own r.subscriptions.table.sessions).numbers (lists_its r own k))))
 request_stays r (Move.Items clock number asked) session k given is = plain_stays session r (Move.Items clock number asked) refl k is (λ vars. inr (is, tt))
 request_stays r (Move.Timers clock) session k given is = absurd is
 request_stays r (Move.Shutdown clock) session k given is = absurd is
 request_stays r (Move.Gone conn) session k given is = absurd is
 request_stays r (Move.Show changed) session k given is = absurd is
 
-pub requests_stay_apart : (config : Configuration) (moves : List Move) (m : Move) (session : ℕ) → let r = run config moves in IsRequestOf session r.subs.table m →
-    OthersStay session r.subs.table r.items (moved r m).subs.table (moved r m).items
+pub requests_stay_apart : (config : Configuration) (moves : List Move) (m : Move) (session : ℕ) → let r = run config moves in IsRequestOf session r.subscriptions.table m →
+    OthersStay session r.subscriptions.table r.items (moved r m).subscriptions.table (moved r m).items
 requests_stay_apart config moves m session is = request_stays (run config moves) m session (run_kept config moves) (run_numbered config moves).numbered.given is

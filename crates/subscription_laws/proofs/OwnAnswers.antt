@@ -413,7 +413,7 @@ module _ (P : ℕ → PublishCall → Type 0) (Q : ℕ → ℕ → Type 0) where
       ((tt, tt), entries_inserted IsOwn session _ (remove_entry (is_at (nat_cmp session)) w.table.sessions) (own_part session w.table.sessions h) (entries_removed IsOwn (is_at (nat_cmp session)) w.table.sessions h))
 
   own_making : FollowsMaking KeepsOwn
-  own_making = record { refuses = own_refused; adds = λ r clock session settings enabled room. own_added session (r.subs.made + 1) settings enabled (stage_of r.subs r.items clock) }
+  own_making = record { refuses = own_refused; adds = λ r clock session settings enabled room. own_added session (r.subscriptions.made + 1) settings enabled (stage_of r.subscriptions r.items clock) }
 
   -- a request has what is asked, whatever became of its acknowledgements
   abbrev Asks : Move → Type 0
@@ -421,15 +421,15 @@ module _ (P : ℕ → PublishCall → Type 0) (Q : ℕ → ℕ → Type 0) where
   Asks m = Unit {0}
 
   publish_begins : (r : Ran) (clock : Moment) (session : ℕ) (asked : PublishCall) (acks : List SubscriptionAcknowledgement) → IsRunKept r → Asks (Move.Publish clock session asked acks) →
-      let v = ready session acks (stage_of r.subs r.items clock) in
-      AllByRecursion (MayAsk (asked_by v (with_results asked (acknowledged_all session r.subs.table.subscriptions acks).results))) (asked_numbers v (part_at session v.table.sessions).numbers)
+      let v = ready session acks (stage_of r.subscriptions r.items clock) in
+      AllByRecursion (MayAsk (asked_by v (with_results asked (acknowledged_all session r.subscriptions.table.subscriptions acks).results))) (asked_numbers v (part_at session v.table.sessions).numbers)
   publish_begins r clock session asked acks kept good =
-      let w = stage_of r.subs r.items clock in
+      let w = stage_of r.subscriptions r.items clock in
       let v = ready session acks w in
-      let results = (acknowledged_all session r.subs.table.subscriptions acks).results in
+      let results = (acknowledged_all session r.subscriptions.table.subscriptions acks).results in
       let u = asked_by v (with_results asked results) in
       let ns = (part_at session v.table.sessions).numbers in
-      let k = ready_kept session r.subs.made r.rows acks w (enter r clock kept) in
+      let k = ready_kept session r.subscriptions.made r.rows acks w (enter r clock kept) in
       asked_are (MayAsk u) v ns
       (listed_are (MayAsk u) ns (λ m listed. (
         k.calm.listed.subscriptions,
@@ -471,13 +471,13 @@ module _ (P : ℕ → PublishCall → Type 0) (Q : ℕ → ℕ → Type 0) where
   AllOwn r [] = Unit {0}
   AllOwn r (m ∷ ms) = AllByRecursion Own (encounters r m) × AllOwn (moved r m) ms
 
-  one_call : (r : Ran) (m : Move) → IsRunKept r → Asks m → AllByRecursion IsMet (encounters r m) → AreOwn r.subs.table.sessions → AllByRecursion Own (encounters r m) × AreOwn (moved r m).subs.table.sessions
+  one_call : (r : Ran) (m : Move) → IsRunKept r → Asks m → AllByRecursion IsMet (encounters r m) → AreOwn r.subscriptions.table.sessions → AllByRecursion Own (encounters r m) × AreOwn (moved r m).subscriptions.table.sessions
   one_call r m kept good of h =
       let goods = both_so (OnBeside IsTold) IsMet IsGood both_good (encounters r m) (each_done IsTold r m (told_good m good)) of in
       let x = walked May KeepsOwn follows_own own_making r m (begins r m kept good) goods h in
       (x.0, subst (λ (t : TableState). AreOwn t.sessions) (sym (left_is r m).table) x.1)
 
-  all_own : (ms : List Move) (r : Ran) → IsRunKept r → AllByRecursion Asks ms → AllMet r ms → AreOwn r.subs.table.sessions → AllOwn r ms
+  all_own : (ms : List Move) (r : Ran) → IsRunKept r → AllByRecursion Asks ms → AllMet r ms → AreOwn r.subscriptions.table.sessions → AllOwn r ms
   all_own [] r kept good of h = tt
   all_own (m ∷ ms) r kept good of h = let x = one_call r m kept good.0 of.0 h in (x.0, all_own ms (moved r m) (one_run r m kept) good.1 of.1 x.1)
 

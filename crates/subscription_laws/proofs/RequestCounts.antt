@@ -302,7 +302,7 @@ module _ (such : Origin → Bool) where
 
   as_came : (r : Ran) (m : Move) → such_asked (encounters r m) ≤ came_by such m
   as_came r (Move.Publish clock session asked acks) =
-      let w = stage_of r.subs r.items clock in
+      let w = stage_of r.subscriptions r.items clock in
       noted_once (note_of session w.table.sessions) session (with_results asked (acknowledged_all session w.table.subscriptions acks).results) acks w
   as_came r (Move.Delete clock session numbers) = none_comes r (Move.Delete clock session numbers) refl
   as_came r (Move.EndSession clock session deleting) = none_comes r (Move.EndSession clock session deleting) (refl, refl)
@@ -356,20 +356,20 @@ module _ (such : Origin → Bool) where
   less_making : FollowsMaking Grows
   less_making = record {
     refuses = λ session number settings enabled w. no_more _ _ (refused_one_less session settings enabled w);
-    adds = λ r clock session settings enabled room. no_more _ _ (added_less session (r.subs.made + 1) settings enabled (stage_of r.subs r.items clock));
+    adds = λ r clock session settings enabled room. no_more _ _ (added_less session (r.subscriptions.made + 1) settings enabled (stage_of r.subscriptions r.items clock));
   }
 
   abbrev of_ran : Ran → ℕ
-  of_ran r = such_answers such r.replies + such_waiting such r.subs.table.sessions
+  of_ran r = such_answers such r.replies + such_waiting such r.subscriptions.table.sessions
 
   call_less : (r : Ran) (m : Move) → of_ran (moved r m) ≤ of_ran r + came_by such m
   call_less r m =
       let v = left r m in
-      let h : of_stage v ≤ 0 + 0 + such_waiting such r.subs.table.sessions + such_asked (encounters r m) = walked Any Grows follows_less less_making r m (any_begins r m) in
+      let h : of_stage v ≤ 0 + 0 + such_waiting such r.subscriptions.table.sessions + such_asked (encounters r m) = walked Any Grows follows_less less_making r m (any_begins r m) in
       let came : such_asked (encounters r m) ≤ came_by such m = as_came r m in
       let sum : such_answers such (r.replies ++ v.round.replies) ≡ such_answers such r.replies + such_answers such v.round.replies = answers-append r.replies v.round.replies in
       let replies : such_answers such (moved r m).replies ≡ such_answers such (r.replies ++ v.round.replies) = ap (such_answers such) (left_is r m).replies in
-      let waiting : such_waiting such (moved r m).subs.table.sessions ≡ such_waiting such v.table.sessions = ap (λ (t : TableState). such_waiting such t.sessions) (left_is r m).table in
+      let waiting : such_waiting such (moved r m).subscriptions.table.sessions ≡ such_waiting such v.table.sessions = ap (λ (t : TableState). such_waiting such t.sessions) (left_is r m).table in
       omega (arith, h, came, sum, replies, waiting)
 
   runs_less : (moves : List Move) (r : Ran) → of_ran (fold moved r moves) ≤ of_ran r + such_came such moves
@@ -379,8 +379,8 @@ module _ (such : Origin → Bool) where
       let k : of_ran (moved r m) ≤ of_ran r + came_by such m = call_less r m in
       omega (arith, h, k)
 
-pub answered_once : (config : Configuration) (moves : List Move) (such : Origin → Bool) → let r = run config moves in such_answers such r.replies + such_waiting such r.subs.table.sessions ≤ such_came such moves
+pub answered_once : (config : Configuration) (moves : List Move) (such : Origin → Bool) → let r = run config moves in such_answers such r.replies + such_waiting such r.subscriptions.table.sessions ≤ such_came such moves
 answered_once config moves such =
     let r = run config moves in
-    let h : such_answers such r.replies + such_waiting such r.subs.table.sessions ≤ 0 + such_came such moves = runs_less such moves (start config) in
+    let h : such_answers such r.replies + such_waiting such r.subscriptions.table.sessions ≤ 0 + such_came such moves = runs_less such moves (start config) in
     omega (arith, h)

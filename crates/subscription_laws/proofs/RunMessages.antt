@@ -205,14 +205,14 @@ follows_numbers = record {
 -- ---- any calls
 
 abbrev pub IsRunNumbered : List Made → Ran → Type 0
-IsRunNumbered ms r = IsMessaged r.subs.made ms r.subs.table
+IsRunNumbered ms r = IsMessaged r.subscriptions.made ms r.subscriptions.table
 
-created_run : (ms : List Made) (r : Ran) (clock : Moment) (session : ℕ) (settings : Settings) (enabled : Bool) → IsRunNumbered ms r → IsRunNumbered ms (ran_by r (created session settings enabled r.subs r.items clock))
+created_run : (ms : List Made) (r : Ran) (clock : Moment) (session : ℕ) (settings : Settings) (enabled : Bool) → IsRunNumbered ms r → IsRunNumbered ms (ran_by r (created session settings enabled r.subscriptions r.items clock))
 unfolding created refused created_one
 created_run ms r clock session settings enabled h =
-    let w = stage_of r.subs r.items clock in
-    either (λ s. IsRunNumbered ms (ran_by r s)) (is_full r.subs session) (refused session settings enabled r.subs w) (created_one session settings enabled r.subs w)
-    (subst (IsMessaged r.subs.made ms) (sym (refused_one_same session settings enabled w)) h) (added_numbered r.subs.made ms session settings enabled w h)
+    let w = stage_of r.subscriptions r.items clock in
+    either (λ s. IsRunNumbered ms (ran_by r s)) (is_full r.subscriptions session) (refused session settings enabled r.subscriptions w) (created_one session settings enabled r.subscriptions w)
+    (subst (IsMessaged r.subscriptions.made ms) (sym (refused_one_same session settings enabled w)) h) (added_numbered r.subscriptions.made ms session settings enabled w h)
 
 pub created_none : (b : Bool) (number session : ℕ) (settings : Settings) (enabled : Bool) (w : Stage) → flat_map made_at (Meets (made_scene b number session settings enabled w) ∷ []) ≡ []
 created_none true number session settings enabled w = refl
@@ -220,17 +220,17 @@ created_none false number session settings enabled w = refl
 
 plain_run : (ms : List Made) (r : Ran) (m : Move) → makes m ≡ false → IsRunNumbered ms r → IsRunNumbered (ms ++ moved_made r m) (moved r m)
 plain_run ms r m plain h =
-    subst (λ (made : ℕ). IsMessaged made (ms ++ moved_made r m) (moved r m).subs.table) (sym (made_stays r m plain))
-    (subst (IsMessaged r.subs.made (ms ++ moved_made r m)) (sym (left_is r m).table) (walked_on Any Numbers follows_numbers r m plain (any_begins r m) r.subs.made ms h))
+    subst (λ (made : ℕ). IsMessaged made (ms ++ moved_made r m) (moved r m).subscriptions.table) (sym (made_stays r m plain))
+    (subst (IsMessaged r.subscriptions.made (ms ++ moved_made r m)) (sym (left_is r m).table) (walked_on Any Numbers follows_numbers r m plain (any_begins r m) r.subscriptions.made ms h))
 
 pub one_run : (ms : List Made) (r : Ran) (m : Move) → IsRunNumbered ms r → IsRunNumbered (ms ++ moved_made r m) (moved r m)
 one_run ms r (Move.Create clock session settings enabled) h =
-    subst (λ (xs : List Made). IsRunNumbered (ms ++ xs) (moved r (Move.Create clock session settings enabled))) (sym (created_none (is_full r.subs session) (r.subs.made + 1) session settings enabled (stage_of r.subs r.items clock)))
+    subst (λ (xs : List Made). IsRunNumbered (ms ++ xs) (moved r (Move.Create clock session settings enabled))) (sym (created_none (is_full r.subscriptions session) (r.subscriptions.made + 1) session settings enabled (stage_of r.subscriptions r.items clock)))
     (none_more _ ms _ (created_run ms r clock session settings enabled h))
 one_run ms r m h = plain_run ms r m refl h
 
 all_run : (moves : List Move) (ms : List Made) (r : Ran) → IsRunNumbered ms r → IsRunNumbered (ms ++ run_made r moves) (fold moved r moves)
-all_run [] ms r h = none_more r.subs.made ms r.subs.table h
+all_run [] ms r h = none_more r.subscriptions.made ms r.subscriptions.table h
 all_run (m ∷ moves) ms r h =
     subst (λ (xs : List Made). IsRunNumbered xs (fold moved r (m ∷ moves))) (append_assoc ms (moved_made r m) (run_made (moved r m) moves))
     (all_run moves (ms ++ moved_made r m) (moved r m) (one_run ms r m h))
@@ -245,14 +245,14 @@ run_numbered config moves = all_run moves [] (start config) (record {
 pub messages_numbered : (config : Configuration) (moves : List Move) (number : ℕ) → AreNumbered 0 (messages_for number (run_made (start config) moves))
 messages_numbered config moves number = (run_numbered config moves).numbered.numbered number
 
-pub messages_live : (config : Configuration) (moves : List Move) (number : ℕ) (s : Subscription) → subscription_at number (run config moves).subs.table.subscriptions ≡ Some s →
+pub messages_live : (config : Configuration) (moves : List Move) (number : ℕ) (s : Subscription) → subscription_at number (run config moves).subscriptions.table.subscriptions ≡ Some s →
     AreItsMessages s (messages_for number (run_made (start config) moves))
 messages_live config moves number s found = (run_numbered config moves).numbered.live number s found
 
-pub messages_noted : (config : Configuration) (moves : List Move) (session : ℕ) → AreNotes (run_made (start config) moves) (part_at session (run config moves).subs.table.sessions).notes
+pub messages_noted : (config : Configuration) (moves : List Move) (session : ℕ) → AreNotes (run_made (start config) moves) (part_at session (run config moves).subscriptions.table.sessions).notes
 messages_noted config moves session =
     let r = run config moves in
-    all_notes r.subs.made (run_made (start config) moves) r.subs.table.subscriptions (part_at session r.subs.table.sessions).notes ((run_numbered config moves).notes session)
+    all_notes r.subscriptions.made (run_made (start config) moves) r.subscriptions.table.subscriptions (part_at session r.subscriptions.table.sessions).notes ((run_numbered config moves).notes session)
 
 -- ---- what is given again
 
@@ -276,11 +276,11 @@ bytes_among wanted kept messages bytes given h = by (find (has_number wanted) ke
         let f = found_among wanted kept messages m found h in
         subst (λ (x : KeptMessage). IsAmong x messages) (message_is m wanted bytes f.0 (some_same e)) f.1
 
-pub messages_kept : (config : Configuration) (moves : List Move) (number wanted : ℕ) (bytes : List ℕ) → kept_at number wanted (run config moves).subs.table ≡ Some bytes →
+pub messages_kept : (config : Configuration) (moves : List Move) (number wanted : ℕ) (bytes : List ℕ) → kept_at number wanted (run config moves).subscriptions.table ≡ Some bytes →
     IsAmong (record { number = wanted; bytes = bytes }) (messages_for number (run_made (start config) moves))
-messages_kept config moves number wanted bytes given = by (subscription_at number (run config moves).subs.table.subscriptions) refl given
+messages_kept config moves number wanted bytes given = by (subscription_at number (run config moves).subscriptions.table.subscriptions) refl given
   where
-    by : (o : Option Subscription) → subscription_at number (run config moves).subs.table.subscriptions ≡ o → kept_bytes_by wanted o ≡ Some bytes → IsAmong (record { number = wanted; bytes = bytes }) (messages_for number (run_made (start config) moves))
+    by : (o : Option Subscription) → subscription_at number (run config moves).subscriptions.table.subscriptions ≡ o → kept_bytes_by wanted o ≡ Some bytes → IsAmong (record { number = wanted; bytes = bytes }) (messages_for number (run_made (start config) moves))
     by None found e = absurd (cc)
     by (Some s) found e = bytes_among wanted s.kept (messages_for number (run_made (start config) moves)) bytes e (messages_live config moves number s found).kept
 
@@ -296,7 +296,7 @@ given_again session number wanted bytes w given = by (is_own w.table session num
     by false o e = absurd (cc)
 
 pub messages_given_again : (config : Configuration) (moves : List Move) (clock : Moment) (session number wanted : ℕ) (bytes : List ℕ) → let r = run config moves in
-    (republished session number wanted (stage_of r.subs r.items clock)).answer ≡ Ok bytes → IsAmong (record { number = wanted; bytes = bytes }) (messages_for number (run_made (start config) moves))
+    (republished session number wanted (stage_of r.subscriptions r.items clock)).answer ≡ Ok bytes → IsAmong (record { number = wanted; bytes = bytes }) (messages_for number (run_made (start config) moves))
 messages_given_again config moves clock session number wanted bytes given =
     let r = run config moves in
-    messages_kept config moves number wanted bytes (given_again session number wanted bytes (stage_of r.subs r.items clock) given)
+    messages_kept config moves number wanted bytes (given_again session number wanted bytes (stage_of r.subscriptions r.items clock) given)

@@ -31,43 +31,43 @@ use Rattle.subscription_laws.proofs.Walks.{clock_of, left_is, makes, made_stays,
 
 -- what holds after any calls
 pub record IsRunKept (r : Ran) : Type 0 where
-  pub calm : IsCalm r.rows r.subs.table r.items
-  pub own : (session : ℕ) → ListsItsOwn r.subs.table session
-  pub within : AreLists r.subs.made r.subs.table
+  pub calm : IsCalm r.rows r.subscriptions.table r.items
+  pub own : (session : ℕ) → ListsItsOwn r.subscriptions.table session
+  pub within : AreLists r.subscriptions.made r.subscriptions.table
 
 -- ---- one call
 
-pub enter : (r : Ran) (clock : Moment) → IsRunKept r → IsKept None r.subs.made r.rows (stage_of r.subs r.items clock)
+pub enter : (r : Ran) (clock : Moment) → IsRunKept r → IsKept None r.subscriptions.made r.rows (stage_of r.subscriptions r.items clock)
 enter r clock k = record {
-  calm = subst (λ (rows : List Fired). IsCalm rows r.subs.table r.items) (sym (append-nil r.rows)) k.calm;
+  calm = subst (λ (rows : List Fired). IsCalm rows r.subscriptions.table r.items) (sym (append-nil r.rows)) k.calm;
   own = λ j other. k.own j;
   within = k.within;
 }
 
-leave : (r : Ran) (w : Stage) → IsKept None r.subs.made r.rows w → IsRunKept (ran_by r (without_answer r.subs w))
+leave : (r : Ran) (w : Stage) → IsKept None r.subscriptions.made r.rows w → IsRunKept (ran_by r (without_answer r.subscriptions w))
 leave r w k = record { calm = k.calm; own = λ j. k.own j (λ e. absurd (cc)); within = k.within }
 
 -- CreateSubscription
-created_run : (r : Ran) (clock : Moment) (session : ℕ) (settings : Settings) (enabled : Bool) → IsRunKept r → IsRunKept (ran_by r (created session settings enabled r.subs r.items clock))
+created_run : (r : Ran) (clock : Moment) (session : ℕ) (settings : Settings) (enabled : Bool) → IsRunKept r → IsRunKept (ran_by r (created session settings enabled r.subscriptions r.items clock))
 unfolding created refused created_one
 created_run r clock session settings enabled k =
-    let w = stage_of r.subs r.items clock in
-    let none = refused_one_kept r.subs.made r.rows session settings enabled w (enter r clock k) in
-    let one = added_kept r.subs.made r.rows session (r.subs.made + 1) settings enabled w (omega arith) (enter r clock k) in
-    either (λ s. IsRunKept (ran_by r s)) (is_full r.subs session) (refused session settings enabled r.subs w) (created_one session settings enabled r.subs w)
+    let w = stage_of r.subscriptions r.items clock in
+    let none = refused_one_kept r.subscriptions.made r.rows session settings enabled w (enter r clock k) in
+    let one = added_kept r.subscriptions.made r.rows session (r.subscriptions.made + 1) settings enabled w (omega arith) (enter r clock k) in
+    either (λ s. IsRunKept (ran_by r s)) (is_full r.subscriptions session) (refused session settings enabled r.subscriptions w) (created_one session settings enabled r.subscriptions w)
     (record { calm = none.calm; own = λ j. none.own j (λ e. absurd (cc)); within = none.within }) (record { calm = one.calm; own = λ j. one.own j (λ e. absurd (cc)); within = one.within })
 
 -- the items of a subscription are served
-items_run : (r : Ran) (clock : Moment) (number : ℕ) (asked : Option ItemsCall) (s : Subscription) → subscription_at number r.subs.table.subscriptions ≡ Some s → IsRunKept r →
-    IsRunKept (items_ran clock number asked r (Some (vars_of s (part_of s.session r.subs.table.sessions) r.items number)))
+items_run : (r : Ran) (clock : Moment) (number : ℕ) (asked : Option ItemsCall) (s : Subscription) → subscription_at number r.subscriptions.table.subscriptions ≡ Some s → IsRunKept r →
+    IsRunKept (items_ran clock number asked r (Some (vars_of s (part_of s.session r.subscriptions.table.sessions) r.items number)))
 items_run r clock number asked s found k =
     let after = items_asked r.items number asked in
     leave r _
-    (served_kept r.subs.made r.rows (stage_of r.subs after clock) r.items number s (subst (λ (rows : List Fired). IsCalm rows r.subs.table r.items) (sym (append-nil r.rows)) k.calm)
+    (served_kept r.subscriptions.made r.rows (stage_of r.subscriptions after clock) r.items number s (subst (λ (rows : List Fired). IsCalm rows r.subscriptions.table r.items) (sym (append-nil r.rows)) k.calm)
     (λ j other. k.own j) k.within (served_apart number asked r.items) found)
 
-items_found : (r : Ran) (clock : Moment) (number : ℕ) (asked : Option ItemsCall) → IsRunKept r → (o : Option Subscription) → subscription_at number r.subs.table.subscriptions ≡ o →
-    IsRunKept (items_ran clock number asked r (vars_by number r.items r.subs.table.sessions o))
+items_found : (r : Ran) (clock : Moment) (number : ℕ) (asked : Option ItemsCall) → IsRunKept r → (o : Option Subscription) → subscription_at number r.subscriptions.table.subscriptions ≡ o →
+    IsRunKept (items_ran clock number asked r (vars_by number r.items r.subscriptions.table.sessions o))
 items_found r clock number asked k None found = k
 items_found r clock number asked k (Some s) found = items_run r clock number asked s found k
 
@@ -128,7 +128,7 @@ module _ (made : ℕ) (past : List Fired) where
 
 quiet_run : (r : Ran) (m : Move) → makes m ≡ false → DoneBy IsQuiet m → Begins Quiet r m → IsRunKept r → IsRunKept (moved r m)
 quiet_run r m plain done given k =
-    let v = walked_on Quiet (StaysKept r.subs.made r.rows) (follows_kept r.subs.made r.rows) r m plain given (each_done IsQuiet r m done) (enter r (clock_of m) k) in
+    let v = walked_on Quiet (StaysKept r.subscriptions.made r.rows) (follows_kept r.subscriptions.made r.rows) r m plain given (each_done IsQuiet r m done) (enter r (clock_of m) k) in
     let is = left_is r m in
     record {
       calm = rw (is.rows, is.table, is.items) v.calm;
@@ -140,14 +140,14 @@ pub one_run : (r : Ran) (m : Move) → IsRunKept r → IsRunKept (moved r m)
 one_run r (Move.Create clock session settings enabled) k = created_run r clock session settings enabled k
 one_run r (Move.Delete clock session numbers) k = quiet_run r (Move.Delete clock session numbers) refl tt (refl, λ is. absurd (cc)) k
 one_run r (Move.Publish clock session asked acks) k =
-    let request = with_results asked (acknowledged_all session r.subs.table.subscriptions acks).results in
+    let request = with_results asked (acknowledged_all session r.subscriptions.table.subscriptions acks).results in
     quiet_run r (Move.Publish clock session asked acks) refl (tt, λ results. ((λ note. tt), tt, tt))
-    (λ none. (refl, λ is. (refl, publish_begins session r.subs.made r.rows request acks (stage_of r.subs r.items clock) (enter r clock k)))) k
+    (λ none. (refl, λ is. (refl, publish_begins session r.subscriptions.made r.rows request acks (stage_of r.subscriptions r.items clock) (enter r clock k)))) k
 one_run r (Move.EndSession clock session deleting) k =
-    leave r (session_ended session deleting (stage_of r.subs r.items clock)) (ended_kept session r.subs.made r.rows deleting (stage_of r.subs r.items clock) (enter r clock k))
+    leave r (session_ended session deleting (stage_of r.subscriptions r.items clock)) (ended_kept session r.subscriptions.made r.rows deleting (stage_of r.subscriptions r.items clock) (enter r clock k))
 one_run r (Move.Shutdown clock) k = quiet_run r (Move.Shutdown clock) refl tt (refl, λ is. absurd (cc)) k
 one_run r (Move.Gone conn) k = quiet_run r (Move.Gone conn) refl tt tt k
-one_run r (Move.Items clock number asked) k = items_found r clock number asked k (subscription_at number r.subs.table.subscriptions) refl
+one_run r (Move.Items clock number asked) k = items_found r clock number asked k (subscription_at number r.subscriptions.table.subscriptions) refl
 one_run r (Move.Show changed) k = quiet_run r (Move.Show changed) refl tt tt k
 one_run r m k = quiet_run r m refl tt (refl, λ is. absurd (cc)) k
 

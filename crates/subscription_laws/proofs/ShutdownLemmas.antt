@@ -99,13 +99,13 @@ unfolding shut_down refused_by
 all_refused w = ap refused_by (all_wait (keys_of w.table.subscriptions) w)
 
 pub all_are_answered : (config : Configuration) (moves : List Move) (clock : Moment) → let r = run config moves in
-    (moved r (Move.Shutdown clock)).replies ≡ r.replies ++ map (refused_of clock status.BAD_SHUTDOWN) (all_requests (values_of r.subs.table.sessions))
-all_are_answered config moves clock = let r = run config moves in ap (λ (rs : List Reply). r.replies ++ rs) (all_refused (stage_of r.subs r.items clock))
+    (moved r (Move.Shutdown clock)).replies ≡ r.replies ++ map (refused_of clock status.BAD_SHUTDOWN) (all_requests (values_of r.subscriptions.table.sessions))
+all_are_answered config moves clock = let r = run config moves in ap (λ (rs : List Reply). r.replies ++ rs) (all_refused (stage_of r.subscriptions r.items clock))
 
 -- ---- and nothing is left
 
-pub none_is_left : (config : Configuration) (moves : List Move) (clock : Moment) → (moved (run config moves) (Move.Shutdown clock)).subs.table ≡ no_table
-none_is_left config moves clock = let r = run config moves in nothing_left (stage_of r.subs r.items clock)
+pub none_is_left : (config : Configuration) (moves : List Move) (clock : Moment) → (moved (run config moves) (Move.Shutdown clock)).subscriptions.table ≡ no_table
+none_is_left config moves clock = let r = run config moves in nothing_left (stage_of r.subscriptions r.items clock)
 
 -- ---- each subscription that lives is concerned
 
@@ -122,8 +122,8 @@ each_is (e ∷ es) w behind none is =
     ∙ ap (λ (ns : List ℕ). e.0 ∷ ns) (each_is es (met w e.0 call.Shutdown) behind none (first_gone w e.0 e.1 es is))
 
 pub all_are_concerned : (config : Configuration) (moves : List Move) (clock : Moment) → let r = run config moves in
-    map subscription_of (concerned r (Move.Shutdown clock)) ≡ keys_of r.subs.table.subscriptions
-all_are_concerned config moves clock = let r = run config moves in each_is r.subs.table.subscriptions (stage_of r.subs r.items clock) _ refl refl
+    map subscription_of (concerned r (Move.Shutdown clock)) ≡ keys_of r.subscriptions.table.subscriptions
+all_are_concerned config moves clock = let r = run config moves in each_is r.subscriptions.table.subscriptions (stage_of r.subscriptions r.items clock) _ refl refl
 
 -- ---- and none comes back, but by a call that makes one
 
@@ -147,9 +147,9 @@ follows_none = record {
   one = λ whose asked w n ns s plain given meant found none. let clash : None ≡ Some s = sym (ap (subscription_at n) none) ∙ found in absurd (cc);
 }
 
-one_none : (r : Ran) (m : Move) → makes m ≡ false → r.subs.table.subscriptions ≡ [] → (moved r m).subs.table.subscriptions ≡ []
+one_none : (r : Ran) (m : Move) → makes m ≡ false → r.subscriptions.table.subscriptions ≡ [] → (moved r m).subscriptions.table.subscriptions ≡ []
 one_none r m plain none = ap (λ (t : TableState). t.subscriptions) (left_is r m).table ∙ walked_on Any StaysNone follows_none r m plain (any_begins r m) none
 
-pub none_comes : (ms : List Move) (r : Ran) → AllByRecursion (λ (m : Move). makes m ≡ false) ms → r.subs.table.subscriptions ≡ [] → (fold moved r ms).subs.table.subscriptions ≡ []
+pub none_comes : (ms : List Move) (r : Ran) → AllByRecursion (λ (m : Move). makes m ≡ false) ms → r.subscriptions.table.subscriptions ≡ [] → (fold moved r ms).subscriptions.table.subscriptions ≡ []
 none_comes [] r plain none = none
 none_comes (m ∷ ms) r plain none = none_comes ms (moved r m) plain.1 (one_none r m plain.0 none)

@@ -283,8 +283,8 @@ module _ (b : Bounds) (some : 1 ≤ b.publish_queue) where
   -- ---- any calls
 
   pub record RunBounded (r : Ran) : Type 0 where
-    pub bounds : r.subs.bounds ≡ b
-    pub table : TableBounded r.subs.table
+    pub bounds : r.subscriptions.bounds ≡ b
+    pub table : TableBounded r.subscriptions.table
 
   room_left : (s : SubscriptionsState) (session : ℕ) → is_full s session ≡ false → length (part_at session s.table.sessions).numbers + 1 ≤ s.bounds.subscriptions
   room_left s session e = room s.bounds.subscriptions (length (part_at session s.table.sessions).numbers) (or_parts _ _ e).0
@@ -348,9 +348,9 @@ module _ (b : Bounds) (some : 1 ≤ b.publish_queue) where
   making_bounded = record {
     refuses = λ session number settings enabled w h. refused_one_bounded session settings enabled w h;
     adds = λ r clock session settings enabled free h.
-        added_bounded session (r.subs.made + 1) settings enabled (stage_of r.subs r.items clock)
-        (subst (λ (x : Bounds). length (part_at session r.subs.table.sessions).numbers + 1 ≤ x.subscriptions) h.bounds (room_left r.subs session free))
-        (subst (λ (x : Bounds). length r.subs.table.subscriptions + 1 ≤ x.subscriptions_in_all) h.bounds (room_in_all r.subs session free)) h;
+        added_bounded session (r.subscriptions.made + 1) settings enabled (stage_of r.subscriptions r.items clock)
+        (subst (λ (x : Bounds). length (part_at session r.subscriptions.table.sessions).numbers + 1 ≤ x.subscriptions) h.bounds (room_left r.subscriptions session free))
+        (subst (λ (x : Bounds). length r.subscriptions.table.subscriptions + 1 ≤ x.subscriptions_in_all) h.bounds (room_in_all r.subscriptions session free)) h;
   }
 
   pub one_bounded : (r : Ran) (m : Move) → RunBounded r → RunBounded (moved r m)
@@ -359,6 +359,6 @@ module _ (b : Bounds) (some : 1 ≤ b.publish_queue) where
       let is = left_is r m in
       record { bounds = is.bounds ∙ h.bounds; table = subst TableBounded (sym is.table) v.table }
 
-pub subs_bounded : (config : Configuration) (is : IsConfigured config) (moves : List Move) → let r = run config moves in TableBounded (bounds_of config) is.publish_queue.0 r.subs.table
+pub subs_bounded : (config : Configuration) (is : IsConfigured config) (moves : List Move) → let r = run config moves in TableBounded (bounds_of config) is.publish_queue.0 r.subscriptions.table
 subs_bounded config is moves =
     (fold_keeps (RunBounded (bounds_of config) is.publish_queue.0) moved (one_bounded (bounds_of config) is.publish_queue.0) moves (start config) (record { bounds = refl; table = record { sessions = tt; subscriptions = tt; few = omega arith } })).table

@@ -130,8 +130,8 @@ follows_tell = record {
 -- where a call begins
 begins : (r : Ran) (m : Move) → IsRunKept r → Begins CanAnswer r m
 begins r (Move.Publish clock session asked acks) k = λ none is.
-    let w = stage_of r.subs r.items clock in
-    (refl, publish_begins session r.subs.made r.rows (with_results asked (acknowledged_all session r.subs.table.subscriptions acks).results) acks w (enter r clock k))
+    let w = stage_of r.subscriptions r.items clock in
+    (refl, publish_begins session r.subscriptions.made r.rows (with_results asked (acknowledged_all session r.subscriptions.table.subscriptions acks).results) acks w (enter r clock k))
 begins r (Move.Create clock session settings enabled) k = tt
 begins r (Move.Gone conn) k = tt
 begins r (Move.Show changed) k = tt
@@ -148,16 +148,16 @@ added_replies : (session number : ℕ) (asked : Settings) (enabled : Bool) (w : 
 unfolding added fired row_done
 added_replies session number asked enabled w = refl
 
-created_silent : (r : Ran) (clock : Moment) (session : ℕ) (settings : Settings) (enabled : Bool) → (created session settings enabled r.subs r.items clock).outcome.stage.round.replies ≡ []
+created_silent : (r : Ran) (clock : Moment) (session : ℕ) (settings : Settings) (enabled : Bool) → (created session settings enabled r.subscriptions r.items clock).outcome.stage.round.replies ≡ []
 unfolding created refused created_one
-created_silent r clock session settings enabled = by (is_full r.subs session)
+created_silent r clock session settings enabled = by (is_full r.subscriptions session)
   where
     w : Stage
-    w = stage_of r.subs r.items clock
+    w = stage_of r.subscriptions r.items clock
 
-    by : (b : Bool) → (cond b (refused session settings enabled r.subs w) (created_one session settings enabled r.subs w)).outcome.stage.round.replies ≡ []
+    by : (b : Bool) → (cond b (refused session settings enabled r.subscriptions w) (created_one session settings enabled r.subscriptions w)).outcome.stage.round.replies ≡ []
     by true = refused_replies session settings enabled w
-    by false = added_replies session (r.subs.made + 1) settings enabled w
+    by false = added_replies session (r.subscriptions.made + 1) settings enabled w
 
 created_untold : (b : Bool) (number session : ℕ) (settings : Settings) (enabled : Bool) (w : Stage) → flat_map told_at (Meets (made_scene b number session settings enabled w) ∷ []) ≡ []
 created_untold true number session settings enabled w = refl
@@ -172,14 +172,14 @@ left_tells r m ms made told h = record { so = (left_is r m).replies ∙ ap (λ (
 created_tells : (ms : List Made) (r : Ran) (clock : Moment) (session : ℕ) (settings : Settings) (enabled : Bool) → (let m = Move.Create clock session settings enabled in Tells ms r.replies (moved r m).replies (moved_made r m) (moved_told r m))
 created_tells ms r clock session settings enabled =
     let m = Move.Create clock session settings enabled in
-    let b = is_full r.subs session in
-    let w = stage_of r.subs r.items clock in
-    subst (λ (made : List Made). Tells ms r.replies (moved r m).replies made (moved_told r m)) (sym (created_none b (r.subs.made + 1) session settings enabled w))
-    (subst (Tells ms r.replies (moved r m).replies []) (sym (created_untold b (r.subs.made + 1) session settings enabled w))
+    let b = is_full r.subscriptions session in
+    let w = stage_of r.subscriptions r.items clock in
+    subst (λ (made : List Made). Tells ms r.replies (moved r m).replies made (moved_told r m)) (sym (created_none b (r.subscriptions.made + 1) session settings enabled w))
+    (subst (Tells ms r.replies (moved r m).replies []) (sym (created_untold b (r.subscriptions.made + 1) session settings enabled w))
     (left_tells r m ms [] [] (record { so = created_silent r clock session settings enabled; brings = refl; sequence = tt })))
 
 plain_tells : (ms : List Made) (r : Ran) (m : Move) → makes m ≡ false → IsRunKept r → IsRunNumbered ms r → Tells ms r.replies (moved r m).replies (moved_made r m) (moved_told r m)
-plain_tells ms r m plain k h = left_tells r m ms (moved_made r m) (moved_told r m) (walked_on CanAnswer Tell follows_tell r m plain (begins r m k) r.subs.made ms h).1
+plain_tells ms r m plain k h = left_tells r m ms (moved_made r m) (moved_told r m) (walked_on CanAnswer Tell follows_tell r m plain (begins r m k) r.subscriptions.made ms h).1
 
 one_call : (ms : List Made) (r : Ran) (m : Move) → IsRunKept r → IsRunNumbered ms r → Tells ms r.replies (moved r m).replies (moved_made r m) (moved_told r m)
 one_call ms r (Move.Create clock session settings enabled) k h = created_tells ms r clock session settings enabled
@@ -237,28 +237,28 @@ messages_brought config moves =
 
 -- ---- the note of a time-out
 
-module _ (r : Ran) (clock : Moment) (session : ℕ) (asked : PublishCall) (acks : List SubscriptionAcknowledgement) (note : TimeoutNote) (is : note_of session r.subs.table.sessions ≡ Some note) where
+module _ (r : Ran) (clock : Moment) (session : ℕ) (asked : PublishCall) (acks : List SubscriptionAcknowledgement) (note : TimeoutNote) (is : note_of session r.subscriptions.table.sessions ≡ Some note) where
   pub note_answers : (moved r (Move.Publish clock session asked acks)).replies
-      ≡ r.replies ++ published_of clock (with_results asked (acknowledged_all session r.subs.table.subscriptions acks).results) note.subscription [] false (timeout_message note.number clock) ∷ []
+      ≡ r.replies ++ published_of clock (with_results asked (acknowledged_all session r.subscriptions.table.subscriptions acks).results) note.subscription [] false (timeout_message note.number clock) ∷ []
   unfolding published
   note_answers =
-      let w = stage_of r.subs r.items clock in
-      let all = acknowledged_all session r.subs.table.subscriptions acks in
+      let w = stage_of r.subscriptions r.items clock in
+      let all = acknowledged_all session r.subscriptions.table.subscriptions acks in
       ap (λ (o : Option TimeoutNote). r.replies ++ (noted_or_answered o session (with_results asked all.results) (ready session acks w)).round.replies) is
 
-  taken_by : (part_at session (without_note session r.subs.table.sessions)).notes ≡ drop 1 (part_at session r.subs.table.sessions).notes
-  taken_by = by (lookup (is_at (nat_cmp session)) r.subs.table.sessions) refl
+  taken_by : (part_at session (without_note session r.subscriptions.table.sessions)).notes ≡ drop 1 (part_at session r.subscriptions.table.sessions).notes
+  taken_by = by (lookup (is_at (nat_cmp session)) r.subscriptions.table.sessions) refl
     where
       part : SessionSubscriptions
-      part = part_at session r.subs.table.sessions
+      part = part_at session r.subscriptions.table.sessions
 
-      by : (o : Option SessionSubscriptions) → lookup (is_at (nat_cmp session)) r.subs.table.sessions ≡ o → (part_at session (without_note session r.subs.table.sessions)).notes ≡ drop 1 part.notes
+      by : (o : Option SessionSubscriptions) → lookup (is_at (nat_cmp session)) r.subscriptions.table.sessions ≡ o → (part_at session (without_note session r.subscriptions.table.sessions)).notes ≡ drop 1 part.notes
       by None none = let nothing : first_of {A = TimeoutNote} [] ≡ Some note = sym (ap (λ (x : Option SessionSubscriptions). first_of (unwrap_or x no_part).notes) none) ∙ is in absurd (cc)
-      by (Some old) found = ap (λ (x : Option SessionSubscriptions). (unwrap_or x no_part).notes) (set_here session old (part_without_note part) r.subs.table.sessions found)
+      by (Some old) found = ap (λ (x : Option SessionSubscriptions). (unwrap_or x no_part).notes) (set_here session old (part_without_note part) r.subscriptions.table.sessions found)
 
-  pub note_taken : (part_at session (moved r (Move.Publish clock session asked acks)).subs.table.sessions).notes ≡ drop 1 (part_at session r.subs.table.sessions).notes
+  pub note_taken : (part_at session (moved r (Move.Publish clock session asked acks)).subscriptions.table.sessions).notes ≡ drop 1 (part_at session r.subscriptions.table.sessions).notes
   unfolding published
   note_taken =
-      let w = stage_of r.subs r.items clock in
-      let all = acknowledged_all session r.subs.table.subscriptions acks in
+      let w = stage_of r.subscriptions r.items clock in
+      let all = acknowledged_all session r.subscriptions.table.subscriptions acks in
       ap (λ (o : Option TimeoutNote). (part_at session (noted_or_answered o session (with_results asked all.results) (ready session acks w)).table.sessions).notes) is ∙ taken_by

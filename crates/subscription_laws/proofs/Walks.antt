@@ -47,7 +47,7 @@ clock_of (Move.Items clock number asked) = clock
 clock_of (Move.Show changed) = any_time
 
 abbrev pub entered : Ran → Move → Stage
-entered r m = stage_of r.subs r.items (clock_of m)
+entered r m = stage_of r.subscriptions r.items (clock_of m)
 
 abbrev pub left_asked : List ℕ → PublishCall → Stage → Stage
 left_asked [] asked w = beside w (TellsNone asked)
@@ -65,37 +65,37 @@ abbrev left_deleted : ℕ → Stage → Stage
 left_deleted session v = cond (has_none session v.table) (all_refused session status.BAD_NO_SUBSCRIPTION v) v
 
 abbrev pub left : Ran → Move → Stage
-left r (Move.Create clock session settings enabled) = (created session settings enabled r.subs r.items clock).outcome.stage
-left r (Move.Modify clock session number settings) = met_if (is_own r.subs.table session number) (stage_of r.subs r.items clock) number (call.Modify settings)
-left r (Move.SetMode clock session numbers enabled) = (named_all session (call.SetMode enabled) (stage_of r.subs r.items clock) numbers).stage
-left r (Move.Delete clock session numbers) = left_deleted session (named_all session call.Delete (stage_of r.subs r.items clock) numbers).stage
+left r (Move.Create clock session settings enabled) = (created session settings enabled r.subscriptions r.items clock).outcome.stage
+left r (Move.Modify clock session number settings) = met_if (is_own r.subscriptions.table session number) (stage_of r.subscriptions r.items clock) number (call.Modify settings)
+left r (Move.SetMode clock session numbers enabled) = (named_all session (call.SetMode enabled) (stage_of r.subscriptions r.items clock) numbers).stage
+left r (Move.Delete clock session numbers) = left_deleted session (named_all session call.Delete (stage_of r.subscriptions r.items clock) numbers).stage
 left r (Move.Publish clock session asked acks) =
-    let w = stage_of r.subs r.items clock in
+    let w = stage_of r.subscriptions r.items clock in
     left_noted (note_of session w.table.sessions) session (with_results asked (acknowledged_all session w.table.subscriptions acks).results) acks w
-left r (Move.Republish clock session number wanted) = met_if (is_own r.subs.table session number) (stage_of r.subs r.items clock) number (call.Republish (is_some (kept_at number wanted r.subs.table)))
-left r (Move.Timers clock) = all_met call.Timer (stage_of r.subs r.items clock) (due_numbers clock r.subs.table.subscriptions)
+left r (Move.Republish clock session number wanted) = met_if (is_own r.subscriptions.table session number) (stage_of r.subscriptions r.items clock) number (call.Republish (is_some (kept_at number wanted r.subscriptions.table)))
+left r (Move.Timers clock) = all_met call.Timer (stage_of r.subscriptions r.items clock) (due_numbers clock r.subscriptions.table.subscriptions)
 left r (Move.EndSession clock session deleting) =
-    beside (beside (all_met (call.SessionEnd deleting) (stage_of r.subs r.items clock) (part_at session r.subs.table.sessions).numbers) (Refuses session status.BAD_SESSION_CLOSED)) (Leaves session)
-left r (Move.Shutdown clock) = beside (all_met call.Shutdown (stage_of r.subs r.items clock) (keys_of r.subs.table.subscriptions)) (LeavesAll status.BAD_SHUTDOWN)
-left r (Move.Gone conn) = beside (stage_of r.subs r.items any_time) (Loses conn)
-left r (Move.Items clock number asked) = left_served number asked (stage_of r.subs r.items clock) (vars_found number r.items r.subs.table)
-left r (Move.Show changed) = beside (stage_of r.subs r.items any_time) (ShowsItems changed)
+    beside (beside (all_met (call.SessionEnd deleting) (stage_of r.subscriptions r.items clock) (part_at session r.subscriptions.table.sessions).numbers) (Refuses session status.BAD_SESSION_CLOSED)) (Leaves session)
+left r (Move.Shutdown clock) = beside (all_met call.Shutdown (stage_of r.subscriptions r.items clock) (keys_of r.subscriptions.table.subscriptions)) (LeavesAll status.BAD_SHUTDOWN)
+left r (Move.Gone conn) = beside (stage_of r.subscriptions r.items any_time) (Loses conn)
+left r (Move.Items clock number asked) = left_served number asked (stage_of r.subscriptions r.items clock) (vars_found number r.items r.subscriptions.table)
+left r (Move.Show changed) = beside (stage_of r.subscriptions r.items any_time) (ShowsItems changed)
 
 -- ---- which is what stands after it
 
 -- what stands after a call, by the world that it leaves
 pub record IsLeft (r after : Ran) (w : Stage) : Type 0 where
-  pub table : after.subs.table ≡ w.table
+  pub table : after.subscriptions.table ≡ w.table
   pub items : after.items ≡ w.items
   pub rows : after.rows ≡ r.rows ++ w.round.rows
   pub replies : after.replies ≡ r.replies ++ w.round.replies
-  pub bounds : after.subs.bounds ≡ r.subs.bounds
+  pub bounds : after.subscriptions.bounds ≡ r.subscriptions.bounds
 
-said_left : {A : Type 0} → (r : Ran) (o : Outcome A) (w : Stage) → o.stage ≡ w → IsLeft r (ran_by r (said r.subs o)) w
-said_left r o w is = subst (IsLeft r (ran_by r (said r.subs o))) is (record { table = refl; items = refl; rows = refl; replies = refl; bounds = refl })
+said_left : {A : Type 0} → (r : Ran) (o : Outcome A) (w : Stage) → o.stage ≡ w → IsLeft r (ran_by r (said r.subscriptions o)) w
+said_left r o w is = subst (IsLeft r (ran_by r (said r.subscriptions o))) is (record { table = refl; items = refl; rows = refl; replies = refl; bounds = refl })
 
-unanswered_left : (r : Ran) (v w : Stage) → v ≡ w → IsLeft r (ran_by r (without_answer r.subs v)) w
-unanswered_left r v w is = subst (IsLeft r (ran_by r (without_answer r.subs v))) is (record { table = refl; items = refl; rows = refl; replies = refl; bounds = refl })
+unanswered_left : (r : Ran) (v w : Stage) → v ≡ w → IsLeft r (ran_by r (without_answer r.subscriptions v)) w
+unanswered_left r v w is = subst (IsLeft r (ran_by r (without_answer r.subscriptions v))) is (record { table = refl; items = refl; rows = refl; replies = refl; bounds = refl })
 
 either_is : {A : Type 0} → (b : Bool) (w : Stage) (n : ℕ) (asked : Call) (x y : A) → (cond b (outcome x (met w n asked)) (outcome y w)).stage ≡ met_if b w n asked
 either_is true w n asked x y = refl
@@ -143,61 +143,61 @@ unfolding shut_down
 shut_is w = refl
 
 created_left : (r : Ran) (clock : Moment) (session : ℕ) (settings : Settings) (enabled : Bool) →
-    IsLeft r (moved r (Move.Create clock session settings enabled)) (created session settings enabled r.subs r.items clock).outcome.stage
+    IsLeft r (moved r (Move.Create clock session settings enabled)) (created session settings enabled r.subscriptions r.items clock).outcome.stage
 unfolding created refused created_one
-created_left r clock session settings enabled = by (is_full r.subs session)
+created_left r clock session settings enabled = by (is_full r.subscriptions session)
   where
     w : Stage
-    w = stage_of r.subs r.items clock
+    w = stage_of r.subscriptions r.items clock
 
-    by : (b : Bool) → let s = cond b (refused session settings enabled r.subs w) (created_one session settings enabled r.subs w) in IsLeft r (ran_by r s) s.outcome.stage
+    by : (b : Bool) → let s = cond b (refused session settings enabled r.subscriptions w) (created_one session settings enabled r.subscriptions w) in IsLeft r (ran_by r s) s.outcome.stage
     by true = record { table = refl; items = refl; rows = refl; replies = refl; bounds = refl }
     by false = record { table = refl; items = refl; rows = refl; replies = refl; bounds = refl }
 
-items_left : (r : Ran) (clock : Moment) (number : ℕ) (asked : Option ItemsCall) (o : Option Vars) → IsLeft r (items_ran clock number asked r o) (left_served number asked (stage_of r.subs r.items clock) o)
+items_left : (r : Ran) (clock : Moment) (number : ℕ) (asked : Option ItemsCall) (o : Option Vars) → IsLeft r (items_ran clock number asked r o) (left_served number asked (stage_of r.subscriptions r.items clock) o)
 items_left r clock number asked None = record { table = refl; items = refl; rows = sym (append-nil r.rows); replies = sym (append-nil r.replies); bounds = refl }
 items_left r clock number asked (Some vars) = record { table = refl; items = refl; rows = refl; replies = refl; bounds = refl }
 
 pub left_is : (r : Ran) (m : Move) → IsLeft r (moved r m) (left r m)
 left_is r (Move.Create clock session settings enabled) = created_left r clock session settings enabled
 left_is r (Move.Modify clock session number settings) =
-    let w = stage_of r.subs r.items clock in
+    let w = stage_of r.subscriptions r.items clock in
     said_left r (modified session number settings w) (left r (Move.Modify clock session number settings)) (modified_is session number settings w)
 left_is r (Move.SetMode clock session numbers enabled) =
-    let w = stage_of r.subs r.items clock in
+    let w = stage_of r.subscriptions r.items clock in
     said_left r (named_all session (call.SetMode enabled) w numbers) (left r (Move.SetMode clock session numbers enabled)) refl
 left_is r (Move.Delete clock session numbers) =
-    let w = stage_of r.subs r.items clock in
+    let w = stage_of r.subscriptions r.items clock in
     said_left r (deleted session w numbers) (left r (Move.Delete clock session numbers)) (deleted_is session numbers w)
 left_is r (Move.Publish clock session asked acks) =
-    let w = stage_of r.subs r.items clock in
+    let w = stage_of r.subscriptions r.items clock in
     unanswered_left r (published session asked acks w) (left r (Move.Publish clock session asked acks)) (published_is session asked acks w)
 left_is r (Move.Republish clock session number wanted) =
-    let w = stage_of r.subs r.items clock in
+    let w = stage_of r.subscriptions r.items clock in
     said_left r (republished session number wanted w) (left r (Move.Republish clock session number wanted)) (republished_is session number wanted w)
 left_is r (Move.Timers clock) =
-    let w = stage_of r.subs r.items clock in
-    let ns = due_numbers clock r.subs.table.subscriptions in
+    let w = stage_of r.subscriptions r.items clock in
+    let ns = due_numbers clock r.subscriptions.table.subscriptions in
     unanswered_left r (all_met call.Timer w ns) (left r (Move.Timers clock)) refl
 left_is r (Move.EndSession clock session deleting) =
-    let w = stage_of r.subs r.items clock in
+    let w = stage_of r.subscriptions r.items clock in
     unanswered_left r (session_ended session deleting w) (left r (Move.EndSession clock session deleting)) (ended_is session deleting w)
 left_is r (Move.Shutdown clock) =
-    let w = stage_of r.subs r.items clock in
+    let w = stage_of r.subscriptions r.items clock in
     unanswered_left r (shut_down w) (left r (Move.Shutdown clock)) (shut_is w)
 left_is r (Move.Gone conn) = record { table = refl; items = refl; rows = sym (append-nil r.rows); replies = sym (append-nil r.replies); bounds = refl }
-left_is r (Move.Items clock number asked) = items_left r clock number asked (vars_found number r.items r.subs.table)
+left_is r (Move.Items clock number asked) = items_left r clock number asked (vars_found number r.items r.subscriptions.table)
 left_is r (Move.Show changed) = record { table = refl; items = refl; rows = sym (append-nil r.rows); replies = sym (append-nil r.replies); bounds = refl }
 
 abbrev pub makes : Move → Bool
 makes (Move.Create clock session settings enabled) = true
 makes m = false
 
-pub made_stays : (r : Ran) (m : Move) → makes m ≡ false → (moved r m).subs.made ≡ r.subs.made
+pub made_stays : (r : Ran) (m : Move) → makes m ≡ false → (moved r m).subscriptions.made ≡ r.subscriptions.made
 made_stays r (Move.Create clock session settings enabled) plain = absurd (cc)
-made_stays r (Move.Items clock number asked) plain = by (vars_found number r.items r.subs.table)
+made_stays r (Move.Items clock number asked) plain = by (vars_found number r.items r.subscriptions.table)
   where
-    by : (o : Option Vars) → (items_ran clock number asked r o).subs.made ≡ r.subs.made
+    by : (o : Option Vars) → (items_ran clock number asked r o).subscriptions.made ≡ r.subscriptions.made
     by None = refl
     by (Some vars) = refl
 made_stays r m plain = refl
@@ -229,22 +229,22 @@ pub record Follows (Given : Option ℕ → Call → Stage → List ℕ → Type 
 -- and one that makes a subscription, or none, where the session holds as many as it may
 pub record FollowsMaking (R : Stage → List Encounter → Stage → Type 0) : Type 0 where
   pub refuses : (session number : ℕ) (settings : Settings) (enabled : Bool) (w : Stage) → R w (Meets (made_scene true number session settings enabled w) ∷ []) (refused_one session settings enabled w)
-  pub adds : (r : Ran) (clock : Moment) (session : ℕ) (settings : Settings) (enabled : Bool) → is_full r.subs session ≡ false → let w = stage_of r.subs r.items clock in
-      R w (Meets (made_scene false (r.subs.made + 1) session settings enabled w) ∷ []) (added session (r.subs.made + 1) settings enabled w)
+  pub adds : (r : Ran) (clock : Moment) (session : ℕ) (settings : Settings) (enabled : Bool) → is_full r.subscriptions session ≡ false → let w = stage_of r.subscriptions r.items clock in
+      R w (Meets (made_scene false (r.subscriptions.made + 1) session settings enabled w) ∷ []) (added session (r.subscriptions.made + 1) settings enabled w)
 
 -- what has to be given where a call begins
 abbrev pub Begins : (Option ℕ → Call → Stage → List ℕ → Type 0) → Ran → Move → Type 0
-Begins Given r (Move.Modify clock session number settings) = Given (Some session) (call.Modify settings) (stage_of r.subs r.items clock) (number ∷ [])
-Begins Given r (Move.SetMode clock session numbers enabled) = Given (Some session) (call.SetMode enabled) (stage_of r.subs r.items clock) numbers
-Begins Given r (Move.Delete clock session numbers) = Given (Some session) call.Delete (stage_of r.subs r.items clock) numbers
+Begins Given r (Move.Modify clock session number settings) = Given (Some session) (call.Modify settings) (stage_of r.subscriptions r.items clock) (number ∷ [])
+Begins Given r (Move.SetMode clock session numbers enabled) = Given (Some session) (call.SetMode enabled) (stage_of r.subscriptions r.items clock) numbers
+Begins Given r (Move.Delete clock session numbers) = Given (Some session) call.Delete (stage_of r.subscriptions r.items clock) numbers
 Begins Given r (Move.Publish clock session asked acks) =
-    let v = ready session acks (stage_of r.subs r.items clock) in
-    note_of session r.subs.table.sessions ≡ None → Given None call.Publish (asked_by v (with_results asked (acknowledged_all session r.subs.table.subscriptions acks).results)) (asked_numbers v (part_at session v.table.sessions).numbers)
-Begins Given r (Move.Republish clock session number wanted) = Given (Some session) (call.Republish (is_some (kept_at number wanted r.subs.table))) (stage_of r.subs r.items clock) (number ∷ [])
-Begins Given r (Move.Timers clock) = Given None call.Timer (stage_of r.subs r.items clock) (due_numbers clock r.subs.table.subscriptions)
-Begins Given r (Move.EndSession clock session deleting) = Given None (call.SessionEnd deleting) (stage_of r.subs r.items clock) (part_at session r.subs.table.sessions).numbers
-Begins Given r (Move.Shutdown clock) = Given None call.Shutdown (stage_of r.subs r.items clock) (keys_of r.subs.table.subscriptions)
-Begins Given r (Move.Items clock number asked) = (vars : Vars) → Given None (call.Items vars) (beside (stage_of r.subs r.items clock) (CallsItems number asked)) (number ∷ [])
+    let v = ready session acks (stage_of r.subscriptions r.items clock) in
+    note_of session r.subscriptions.table.sessions ≡ None → Given None call.Publish (asked_by v (with_results asked (acknowledged_all session r.subscriptions.table.subscriptions acks).results)) (asked_numbers v (part_at session v.table.sessions).numbers)
+Begins Given r (Move.Republish clock session number wanted) = Given (Some session) (call.Republish (is_some (kept_at number wanted r.subscriptions.table))) (stage_of r.subscriptions r.items clock) (number ∷ [])
+Begins Given r (Move.Timers clock) = Given None call.Timer (stage_of r.subscriptions r.items clock) (due_numbers clock r.subscriptions.table.subscriptions)
+Begins Given r (Move.EndSession clock session deleting) = Given None (call.SessionEnd deleting) (stage_of r.subscriptions r.items clock) (part_at session r.subscriptions.table.sessions).numbers
+Begins Given r (Move.Shutdown clock) = Given None call.Shutdown (stage_of r.subscriptions r.items clock) (keys_of r.subscriptions.table.subscriptions)
+Begins Given r (Move.Items clock number asked) = (vars : Vars) → Given None (call.Items vars) (beside (stage_of r.subscriptions r.items clock) (CallsItems number asked)) (number ∷ [])
 Begins Given r m = Unit {0}
 
 module _ (Given : Option ℕ → Call → Stage → List ℕ → Type 0) (R : Stage → List Encounter → Stage → Type 0) (f : Follows Given R) where
@@ -323,47 +323,47 @@ module _ (Given : Option ℕ → Call → Stage → List ℕ → Type 0) (R : St
   -- any call that makes no subscription
   pub walked_on : (r : Ran) (m : Move) → makes m ≡ false → Begins Given r m → R (entered r m) (encounters r m) (left r m)
   walked_on r (Move.Create clock session settings enabled) plain given = absurd (cc)
-  walked_on r (Move.Modify clock session number settings) plain given = one_walked session (call.Modify settings) (stage_of r.subs r.items clock) number refl given
-  walked_on r (Move.SetMode clock session numbers enabled) plain given = named_walked session (call.SetMode enabled) refl numbers (outcome [] (stage_of r.subs r.items clock)) given
+  walked_on r (Move.Modify clock session number settings) plain given = one_walked session (call.Modify settings) (stage_of r.subscriptions r.items clock) number refl given
+  walked_on r (Move.SetMode clock session numbers enabled) plain given = named_walked session (call.SetMode enabled) refl numbers (outcome [] (stage_of r.subscriptions r.items clock)) given
   walked_on r (Move.Delete clock session numbers) plain given =
-      let w = stage_of r.subs r.items clock in
+      let w = stage_of r.subscriptions r.items clock in
       let v = (named_all session call.Delete w numbers).stage in
       f.next w v (left_deleted session v) (all_meet (Some session) call.Delete w numbers) (if_none_left session v) (named_walked session call.Delete refl numbers (outcome [] w) given) (none_left_walked session v)
   walked_on r (Move.Publish clock session asked acks) plain given =
-      let w = stage_of r.subs r.items clock in
+      let w = stage_of r.subscriptions r.items clock in
       noted_walked (note_of session w.table.sessions) session (with_results asked (acknowledged_all session w.table.subscriptions acks).results) acks w refl given
   walked_on r (Move.Republish clock session number wanted) plain given =
-      one_walked session (call.Republish (is_some (kept_at number wanted r.subs.table))) (stage_of r.subs r.items clock) number refl given
-  walked_on r (Move.Timers clock) plain given = all_walked call.Timer refl (due_numbers clock r.subs.table.subscriptions) (stage_of r.subs r.items clock) given
+      one_walked session (call.Republish (is_some (kept_at number wanted r.subscriptions.table))) (stage_of r.subscriptions r.items clock) number refl given
+  walked_on r (Move.Timers clock) plain given = all_walked call.Timer refl (due_numbers clock r.subscriptions.table.subscriptions) (stage_of r.subscriptions r.items clock) given
   walked_on r (Move.EndSession clock session deleting) plain given =
-      let w = stage_of r.subs r.items clock in
-      let ns = (part_at session r.subs.table.sessions).numbers in
+      let w = stage_of r.subscriptions r.items clock in
+      let ns = (part_at session r.subscriptions.table.sessions).numbers in
       let v = all_met (call.SessionEnd deleting) w ns in
       let b = Refuses session status.BAD_SESSION_CLOSED in
       let u = beside v b in
       f.next w v (beside u (Leaves session)) (all_meet None (call.SessionEnd deleting) w ns) (Does v b ∷ Does u (Leaves session) ∷ []) (all_walked (call.SessionEnd deleting) refl ns w given)
       (f.next v u (beside u (Leaves session)) (Does v b ∷ []) (Does u (Leaves session) ∷ []) (f.aside v b tt) (f.aside u (Leaves session) tt))
   walked_on r (Move.Shutdown clock) plain given =
-      let w = stage_of r.subs r.items clock in
-      let ns = keys_of r.subs.table.subscriptions in
+      let w = stage_of r.subscriptions r.items clock in
+      let ns = keys_of r.subscriptions.table.subscriptions in
       let v = all_met call.Shutdown w ns in
       f.next w v (beside v (LeavesAll status.BAD_SHUTDOWN)) (all_meet None call.Shutdown w ns) (Does v (LeavesAll status.BAD_SHUTDOWN) ∷ []) (all_walked call.Shutdown refl ns w given)
       (f.aside v (LeavesAll status.BAD_SHUTDOWN) (ap (λ (x : Stage). x.table.subscriptions) (sym (shut_is w)) ∙ ap (λ (t : TableState). t.subscriptions) (nothing_left w)))
-  walked_on r (Move.Gone conn) plain given = f.aside (stage_of r.subs r.items any_time) (Loses conn) tt
-  walked_on r (Move.Items clock number asked) plain given = served_walked number asked (stage_of r.subs r.items clock) given (subscription_at number r.subs.table.subscriptions) refl
-  walked_on r (Move.Show changed) plain given = f.aside (stage_of r.subs r.items any_time) (ShowsItems changed) tt
+  walked_on r (Move.Gone conn) plain given = f.aside (stage_of r.subscriptions r.items any_time) (Loses conn) tt
+  walked_on r (Move.Items clock number asked) plain given = served_walked number asked (stage_of r.subscriptions r.items clock) given (subscription_at number r.subscriptions.table.subscriptions) refl
+  walked_on r (Move.Show changed) plain given = f.aside (stage_of r.subscriptions r.items any_time) (ShowsItems changed) tt
 
   module _ (g : FollowsMaking R) where
-    created_walked : (r : Ran) (clock : Moment) (session : ℕ) (settings : Settings) (enabled : Bool) → let w = stage_of r.subs r.items clock in
-        R w (Meets (made_scene (is_full r.subs session) (r.subs.made + 1) session settings enabled w) ∷ []) (created session settings enabled r.subs r.items clock).outcome.stage
+    created_walked : (r : Ran) (clock : Moment) (session : ℕ) (settings : Settings) (enabled : Bool) → let w = stage_of r.subscriptions r.items clock in
+        R w (Meets (made_scene (is_full r.subscriptions session) (r.subscriptions.made + 1) session settings enabled w) ∷ []) (created session settings enabled r.subscriptions r.items clock).outcome.stage
     unfolding created refused created_one
-    created_walked r clock session settings enabled = by (is_full r.subs session) refl
+    created_walked r clock session settings enabled = by (is_full r.subscriptions session) refl
       where
         w : Stage
-        w = stage_of r.subs r.items clock
+        w = stage_of r.subscriptions r.items clock
 
-        by : (b : Bool) → is_full r.subs session ≡ b → R w (Meets (made_scene b (r.subs.made + 1) session settings enabled w) ∷ []) (cond b (refused session settings enabled r.subs w) (created_one session settings enabled r.subs w)).outcome.stage
-        by true is = g.refuses session (r.subs.made + 1) settings enabled w
+        by : (b : Bool) → is_full r.subscriptions session ≡ b → R w (Meets (made_scene b (r.subscriptions.made + 1) session settings enabled w) ∷ []) (cond b (refused session settings enabled r.subscriptions w) (created_one session settings enabled r.subscriptions w)).outcome.stage
+        by true is = g.refuses session (r.subscriptions.made + 1) settings enabled w
         by false is = g.adds r clock session settings enabled is
 
     -- any call
@@ -440,21 +440,21 @@ module _ (Q : Beside → Type 0) where
 
   pub each_done : (r : Ran) (m : Move) → DoneBy Q m → AllByRecursion (OnBeside Q) (encounters r m)
   each_done r (Move.Create clock session settings enabled) h = (tt, tt)
-  each_done r (Move.Modify clock session number settings) h = meet_done (Some session) (call.Modify settings) (number ∷ []) (stage_of r.subs r.items clock)
-  each_done r (Move.SetMode clock session numbers enabled) h = meet_done (Some session) (call.SetMode enabled) numbers (stage_of r.subs r.items clock)
+  each_done r (Move.Modify clock session number settings) h = meet_done (Some session) (call.Modify settings) (number ∷ []) (stage_of r.subscriptions r.items clock)
+  each_done r (Move.SetMode clock session numbers enabled) h = meet_done (Some session) (call.SetMode enabled) numbers (stage_of r.subscriptions r.items clock)
   each_done r (Move.Delete clock session numbers) h =
-      let w = stage_of r.subs r.items clock in
+      let w = stage_of r.subscriptions r.items clock in
       let v = (named_all session call.Delete w numbers).stage in
       then_done (all_meet (Some session) call.Delete w numbers) (if_none_left session v) (meet_done (Some session) call.Delete numbers w) (none_left_done session v h)
   each_done r (Move.Publish clock session asked acks) h =
-      let w = stage_of r.subs r.items clock in
+      let w = stage_of r.subscriptions r.items clock in
       let results = (acknowledged_all session w.table.subscriptions acks).results in
       let of = h.1 results in
       noted_done (note_of session w.table.sessions) session (with_results asked results) acks w h.0 of.0 of.1 of.2
-  each_done r (Move.Republish clock session number wanted) h = meet_done (Some session) (call.Republish (is_some (kept_at number wanted r.subs.table))) (number ∷ []) (stage_of r.subs r.items clock)
-  each_done r (Move.Timers clock) h = meet_done None call.Timer (due_numbers clock r.subs.table.subscriptions) (stage_of r.subs r.items clock)
-  each_done r (Move.EndSession clock session deleting) h = then_done _ _ (meet_done None (call.SessionEnd deleting) (part_at session r.subs.table.sessions).numbers (stage_of r.subs r.items clock)) (h.0, (h.1, tt))
-  each_done r (Move.Shutdown clock) h = then_done _ _ (meet_done None call.Shutdown (keys_of r.subs.table.subscriptions) (stage_of r.subs r.items clock)) (h, tt)
+  each_done r (Move.Republish clock session number wanted) h = meet_done (Some session) (call.Republish (is_some (kept_at number wanted r.subscriptions.table))) (number ∷ []) (stage_of r.subscriptions r.items clock)
+  each_done r (Move.Timers clock) h = meet_done None call.Timer (due_numbers clock r.subscriptions.table.subscriptions) (stage_of r.subscriptions r.items clock)
+  each_done r (Move.EndSession clock session deleting) h = then_done _ _ (meet_done None (call.SessionEnd deleting) (part_at session r.subscriptions.table.sessions).numbers (stage_of r.subscriptions r.items clock)) (h.0, (h.1, tt))
+  each_done r (Move.Shutdown clock) h = then_done _ _ (meet_done None call.Shutdown (keys_of r.subscriptions.table.subscriptions) (stage_of r.subscriptions r.items clock)) (h, tt)
   each_done r (Move.Gone conn) h = (h, tt)
-  each_done r (Move.Items clock number asked) h = served_done number asked (stage_of r.subs r.items clock) (vars_found number r.items r.subs.table) h
+  each_done r (Move.Items clock number asked) h = served_done number asked (stage_of r.subscriptions r.items clock) (vars_found number r.items r.subscriptions.table) h
   each_done r (Move.Show changed) h = (h, tt)

@@ -37,17 +37,17 @@ few_items config is moves = (items_within config is moves).few
 pub few_items_in_all : (config : Configuration) → IsConfigured config → (moves : List Move) → let r = run config moves in AllItemsAreWithin config r.items.items
 few_items_in_all config is moves = (items_within config is moves).few_in_all
 
-pub few_requests : (config : Configuration) → IsConfigured config → (moves : List Move) → let r = run config moves in RequestsAreWithin config r.subs.table
-few_requests config is moves session = (part_bounded (bounds_of config) is.publish_queue.0 session (run config moves).subs.table.sessions (subs_bounded config is moves).sessions).requests
+pub few_requests : (config : Configuration) → IsConfigured config → (moves : List Move) → let r = run config moves in RequestsAreWithin config r.subscriptions.table
+few_requests config is moves session = (part_bounded (bounds_of config) is.publish_queue.0 session (run config moves).subscriptions.table.sessions (subs_bounded config is moves).sessions).requests
 
-pub few_subscriptions : (config : Configuration) → IsConfigured config → (moves : List Move) → let r = run config moves in SubscriptionsAreWithin config r.subs.table
-few_subscriptions config is moves session = (part_bounded (bounds_of config) is.publish_queue.0 session (run config moves).subs.table.sessions (subs_bounded config is moves).sessions).numbers
+pub few_subscriptions : (config : Configuration) → IsConfigured config → (moves : List Move) → let r = run config moves in SubscriptionsAreWithin config r.subscriptions.table
+few_subscriptions config is moves session = (part_bounded (bounds_of config) is.publish_queue.0 session (run config moves).subscriptions.table.sessions (subs_bounded config is moves).sessions).numbers
 
-pub few_subscriptions_in_all : (config : Configuration) → IsConfigured config → (moves : List Move) → let r = run config moves in AllSubscriptionsAreWithin config r.subs.table
+pub few_subscriptions_in_all : (config : Configuration) → IsConfigured config → (moves : List Move) → let r = run config moves in AllSubscriptionsAreWithin config r.subscriptions.table
 few_subscriptions_in_all config is moves = (subs_bounded config is moves).few
 
-pub few_kept : (config : Configuration) → IsConfigured config → (moves : List Move) → let r = run config moves in KeptAreWithin config r.subs.table
+pub few_kept : (config : Configuration) → IsConfigured config → (moves : List Move) → let r = run config moves in KeptAreWithin config r.subscriptions.table
 few_kept config is moves number s found =
-    let t = (run config moves).subs.table in
+    let t = (run config moves).subscriptions.table in
     subst (λ (o : Option Subscription). length (unwrap_or o (unborn 0)).kept ≤ config.kept) found
     (kept_found (bounds_of config) is.publish_queue.0 number t.subscriptions (subs_bounded config is moves).subscriptions)

@@ -145,29 +145,29 @@ if_none_left session w = if has_none session w.table then Does w (Refuses sessio
 
 abbrev pub encounters : Ran → Move → List Encounter
 encounters r (Move.Create clock session settings enabled) =
-    Meets (made_scene (is_full r.subs session) (r.subs.made + 1) session settings enabled (stage_of r.subs r.items clock)) ∷ []
-encounters r (Move.Modify clock session number settings) = all_meet (Some session) (call.Modify settings) (stage_of r.subs r.items clock) (number ∷ [])
-encounters r (Move.SetMode clock session numbers enabled) = all_meet (Some session) (call.SetMode enabled) (stage_of r.subs r.items clock) numbers
+    Meets (made_scene (is_full r.subscriptions session) (r.subscriptions.made + 1) session settings enabled (stage_of r.subscriptions r.items clock)) ∷ []
+encounters r (Move.Modify clock session number settings) = all_meet (Some session) (call.Modify settings) (stage_of r.subscriptions r.items clock) (number ∷ [])
+encounters r (Move.SetMode clock session numbers enabled) = all_meet (Some session) (call.SetMode enabled) (stage_of r.subscriptions r.items clock) numbers
 encounters r (Move.Delete clock session numbers) =
-    let w = stage_of r.subs r.items clock in
+    let w = stage_of r.subscriptions r.items clock in
     all_meet (Some session) call.Delete w numbers ++ if_none_left session (named_all session call.Delete w numbers).stage
-encounters r (Move.Publish clock session asked acks) = published_encounters session asked acks (stage_of r.subs r.items clock)
+encounters r (Move.Publish clock session asked acks) = published_encounters session asked acks (stage_of r.subscriptions r.items clock)
 encounters r (Move.Republish clock session number wanted) =
-    all_meet (Some session) (call.Republish (is_some (kept_at number wanted r.subs.table))) (stage_of r.subs r.items clock) (number ∷ [])
-encounters r (Move.Timers clock) = all_meet None call.Timer (stage_of r.subs r.items clock) (due_numbers clock r.subs.table.subscriptions)
+    all_meet (Some session) (call.Republish (is_some (kept_at number wanted r.subscriptions.table))) (stage_of r.subscriptions r.items clock) (number ∷ [])
+encounters r (Move.Timers clock) = all_meet None call.Timer (stage_of r.subscriptions r.items clock) (due_numbers clock r.subscriptions.table.subscriptions)
 encounters r (Move.EndSession clock session deleting) =
-    let w = stage_of r.subs r.items clock in
-    let numbers = (part_at session r.subs.table.sessions).numbers in
+    let w = stage_of r.subscriptions r.items clock in
+    let numbers = (part_at session r.subscriptions.table.sessions).numbers in
     let v = all_met (call.SessionEnd deleting) w numbers in
     let b = Refuses session status.BAD_SESSION_CLOSED in
     all_meet None (call.SessionEnd deleting) w numbers ++ Does v b ∷ Does (beside v b) (Leaves session) ∷ []
 encounters r (Move.Shutdown clock) =
-    let w = stage_of r.subs r.items clock in
-    let numbers = keys_of r.subs.table.subscriptions in
+    let w = stage_of r.subscriptions r.items clock in
+    let numbers = keys_of r.subscriptions.table.subscriptions in
     all_meet None call.Shutdown w numbers ++ Does (all_met call.Shutdown w numbers) (LeavesAll status.BAD_SHUTDOWN) ∷ []
-encounters r (Move.Gone conn) = Does (stage_of r.subs r.items any_time) (Loses conn) ∷ []
-encounters r (Move.Items clock number asked) = served_encounters number asked (stage_of r.subs r.items clock) (vars_found number r.items r.subs.table)
-encounters r (Move.Show changed) = Does (stage_of r.subs r.items any_time) (ShowsItems changed) ∷ []
+encounters r (Move.Gone conn) = Does (stage_of r.subscriptions r.items any_time) (Loses conn) ∷ []
+encounters r (Move.Items clock number asked) = served_encounters number asked (stage_of r.subscriptions r.items clock) (vars_found number r.items r.subscriptions.table)
+encounters r (Move.Show changed) = Does (stage_of r.subscriptions r.items any_time) (ShowsItems changed) ∷ []
 
 -- those of all calls, from the first on
 abbrev pub all_encounters : Configuration → List Move → List Encounter

@@ -55,16 +55,16 @@ pub record IsAnswered (asked : PublishCall) (told : List Telling) : Type 0 where
 -- a Publish request comes to the best of the subscriptions of its session that wait, and to no other; and that one answers it
 pub record IsGivenToTheBest (r : Ran) (clock : Moment) (session : ℕ) (asked : PublishCall) (acks : List SubscriptionAcknowledgement) : Type 0 where
   pub number : ℕ
-  pub is_best : IsBest (WaitsIn session) r.subs.table.subscriptions number
+  pub is_best : IsBest (WaitsIn session) r.subscriptions.table.subscriptions number
   pub alone : map subscription_of (concerned r (Move.Publish clock session asked acks)) ≡ number ∷ []
   pub answered : IsAnswered asked (moved_told r (Move.Publish clock session asked acks))
 
 -- so it is where any of them waits, and no note of a time-out is the answer
 abbrev pub ComesToTheBest : Ran → Moment → ℕ → PublishCall → List SubscriptionAcknowledgement → Type 0
 ComesToTheBest r clock session asked acks =
-    (number : ℕ) (s : Subscription) → note_of session r.subs.table.sessions ≡ None → subscription_at number r.subs.table.subscriptions ≡ Some s → WaitsIn session number s →
+    (number : ℕ) (s : Subscription) → note_of session r.subscriptions.table.sessions ≡ None → subscription_at number r.subscriptions.table.subscriptions ≡ Some s → WaitsIn session number s →
     IsGivenToTheBest r clock session asked acks
 
 -- time comes to all subscriptions that are due, the best first, and to no other
 abbrev pub ComesBestFirst : Ran → Moment → Type 0
-ComesBestFirst r clock = AreAllBestFirst (IsDueAt clock) r.subs.table.subscriptions (map subscription_of (concerned r (Move.Timers clock)))
+ComesBestFirst r clock = AreAllBestFirst (IsDueAt clock) r.subscriptions.table.subscriptions (map subscription_of (concerned r (Move.Timers clock)))

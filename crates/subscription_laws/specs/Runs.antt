@@ -61,17 +61,17 @@ pub data Move : Type 0 where
 
 -- the subscriptions and the items, and what was done so far: the rows that fired, and what was answered to Publish requests
 pub record Ran : Type 0 where
-  pub subs : SubscriptionsState
+  pub subscriptions : SubscriptionsState
   pub items : ItemsState
   pub rows : List Fired
   pub replies : List Reply
 
 abbrev pub start : Configuration → Ran
-start config = record { subs = no_subscriptions config; items = no_items config; rows = []; replies = [] }
+start config = record { subscriptions = no_subscriptions config; items = no_items config; rows = []; replies = [] }
 
 abbrev pub ran_by : {A : Type 0} → Ran → Said A → Ran
 ran_by before s = record {
-  subs = s.state;
+  subscriptions = s.state;
   items = s.outcome.stage.items;
   rows = before.rows ++ s.outcome.stage.round.rows;
   replies = before.replies ++ s.outcome.stage.round.replies;
@@ -81,21 +81,21 @@ ran_by before s = record {
 abbrev pub items_ran : Moment → ℕ → Option ItemsCall → Ran → Option Vars → Ran
 items_ran clock number asked before None = before
 items_ran clock number asked before (Some vars) =
-    ran_by before (without_answer before.subs (met (stage_of before.subs (items_asked before.items number asked) clock) number (call.Items vars)))
+    ran_by before (without_answer before.subscriptions (met (stage_of before.subscriptions (items_asked before.items number asked) clock) number (call.Items vars)))
 
 -- what a call leaves: what its contract says
 abbrev pub moved : Ran → Move → Ran
-moved r (Move.Create clock session settings enabled) = ran_by r (created session settings enabled r.subs r.items clock)
-moved r (Move.Modify clock session number settings) = ran_by r (said r.subs (modified session number settings (stage_of r.subs r.items clock)))
-moved r (Move.SetMode clock session numbers enabled) = ran_by r (said r.subs (named_all session (call.SetMode enabled) (stage_of r.subs r.items clock) numbers))
-moved r (Move.Delete clock session numbers) = ran_by r (said r.subs (deleted session (stage_of r.subs r.items clock) numbers))
-moved r (Move.Publish clock session asked acks) = ran_by r (without_answer r.subs (published session asked acks (stage_of r.subs r.items clock)))
-moved r (Move.Republish clock session number wanted) = ran_by r (said r.subs (republished session number wanted (stage_of r.subs r.items clock)))
-moved r (Move.Timers clock) = ran_by r (without_answer r.subs (timed (stage_of r.subs r.items clock)))
-moved r (Move.EndSession clock session deleting) = ran_by r (without_answer r.subs (session_ended session deleting (stage_of r.subs r.items clock)))
-moved r (Move.Shutdown clock) = ran_by r (without_answer r.subs (shut_down (stage_of r.subs r.items clock)))
-moved r (Move.Gone conn) = let subs : SubscriptionsState = r.subs in record r { subs = record subs { table = without_conn conn subs.table } }
-moved r (Move.Items clock number asked) = items_ran clock number asked r (vars_found number r.items r.subs.table)
+moved r (Move.Create clock session settings enabled) = ran_by r (created session settings enabled r.subscriptions r.items clock)
+moved r (Move.Modify clock session number settings) = ran_by r (said r.subscriptions (modified session number settings (stage_of r.subscriptions r.items clock)))
+moved r (Move.SetMode clock session numbers enabled) = ran_by r (said r.subscriptions (named_all session (call.SetMode enabled) (stage_of r.subscriptions r.items clock) numbers))
+moved r (Move.Delete clock session numbers) = ran_by r (said r.subscriptions (deleted session (stage_of r.subscriptions r.items clock) numbers))
+moved r (Move.Publish clock session asked acks) = ran_by r (without_answer r.subscriptions (published session asked acks (stage_of r.subscriptions r.items clock)))
+moved r (Move.Republish clock session number wanted) = ran_by r (said r.subscriptions (republished session number wanted (stage_of r.subscriptions r.items clock)))
+moved r (Move.Timers clock) = ran_by r (without_answer r.subscriptions (timed (stage_of r.subscriptions r.items clock)))
+moved r (Move.EndSession clock session deleting) = ran_by r (without_answer r.subscriptions (session_ended session deleting (stage_of r.subscriptions r.items clock)))
+moved r (Move.Shutdown clock) = ran_by r (without_answer r.subscriptions (shut_down (stage_of r.subscriptions r.items clock)))
+moved r (Move.Gone conn) = let subscriptions : SubscriptionsState = r.subscriptions in record r { subscriptions = record subscriptions { table = without_conn conn subscriptions.table } }
+moved r (Move.Items clock number asked) = items_ran clock number asked r (vars_found number r.items r.subscriptions.table)
 moved r (Move.Show changed) = record r { items = (item_moves.moved r.items (item_moves.Move.Show changed)).state }
 
 -- what any calls leave, from the first on

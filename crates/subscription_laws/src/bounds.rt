@@ -13,8 +13,8 @@ pub fn bounds_hold()
     ensures queues { (config : Configuration) → IsConfigured config → (moves : List Move) → let r = run config moves in QueuesAreWithin config r.items.items }
     ensures items { (config : Configuration) → IsConfigured config → (moves : List Move) → let r = run config moves in ItemsAreWithin config r.items.items }
     ensures all_items { (config : Configuration) → IsConfigured config → (moves : List Move) → let r = run config moves in AllItemsAreWithin config r.items.items }
-    ensures requests { (config : Configuration) → IsConfigured config → (moves : List Move) → let r = run config moves in RequestsAreWithin config r.subs.table }
-    ensures subscriptions { (config : Configuration) → IsConfigured config → (moves : List Move) → let r = run config moves in SubscriptionsAreWithin config r.subs.table }
-    ensures all_subscriptions { (config : Configuration) → IsConfigured config → (moves : List Move) → let r = run config moves in AllSubscriptionsAreWithin config r.subs.table }
-    ensures kept { (config : Configuration) → IsConfigured config → (moves : List Move) → let r = run config moves in KeptAreWithin config r.subs.table }
+    ensures requests { (config : Configuration) → IsConfigured config → (moves : List Move) → let r = run config moves in RequestsAreWithin config r.subscriptions.table }
+    ensures subscriptions { (config : Configuration) → IsConfigured config → (moves : List Move) → let r = run config moves in SubscriptionsAreWithin config r.subscriptions.table }
+    ensures all_subscriptions { (config : Configuration) → IsConfigured config → (moves : List Move) → let r = run config moves in AllSubscriptionsAreWithin config r.subscriptions.table }
+    ensures kept { (config : Configuration) → IsConfigured config → (moves : List Move) → let r = run config moves in KeptAreWithin config r.subscriptions.table }
 {}

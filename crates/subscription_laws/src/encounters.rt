@@ -16,7 +16,7 @@ pub fn one_row_fires_at_each()
 
 /// Whatever is called, each monitored item is of a live subscription; so after a shutdown there is none.
 pub fn items_are_of_live_subscriptions()
-    ensures live { (config : Configuration) (moves : List Move) → let r = run config moves in AreOfLive r.subs.table.subscriptions r.items.items }
+    ensures live { (config : Configuration) (moves : List Move) → let r = run config moves in AreOfLive r.subscriptions.table.subscriptions r.items.items }
     ensures shut { (config : Configuration) (moves : List Move) (clock : Moment) (number : ℕ) →
         item_at number (moved (run config moves) (Move.Shutdown clock)).items.items ≡ None }
 {}

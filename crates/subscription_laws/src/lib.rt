@@ -146,32 +146,32 @@ pub fn all_rows_are_lawful()
 
 /// Whatever is called, each live subscription is steady, with the counts that the rows tell.
 pub fn subscriptions_stay_steady()
-    ensures { (config : Configuration) (moves : List Move) → let r = run config moves in AreSteady r.subs.table r.items r.rows }
+    ensures { (config : Configuration) (moves : List Move) → let r = run config moves in AreSteady r.subscriptions.table r.items r.rows }
 {}
 
 /// Whatever is called, a session lists the number of each live subscription of its own and no other, by rising number, and
 /// none that wasn't given yet.
 pub fn sessions_list_their_subscriptions()
-    ensures listed { (config : Configuration) (moves : List Move) → IsListed (run config moves).subs.table }
-    ensures own { (config : Configuration) (moves : List Move) (session : ℕ) → ListsItsOwn (run config moves).subs.table session }
-    ensures lists { (config : Configuration) (moves : List Move) → let subs = (run config moves).subs in AreLists subs.made subs.table }
+    ensures listed { (config : Configuration) (moves : List Move) → IsListed (run config moves).subscriptions.table }
+    ensures own { (config : Configuration) (moves : List Move) (session : ℕ) → ListsItsOwn (run config moves).subscriptions.table session }
+    ensures lists { (config : Configuration) (moves : List Move) → let subscriptions = (run config moves).subscriptions in AreLists subscriptions.made subscriptions.table }
 {}
 
 /// Whatever is called, a session with a subscription that waits has no queued request.
 pub fn none_waits_beside_a_request()
-    ensures { (config : Configuration) (moves : List Move) → NoneWaitsBesideARequest (run config moves).subs.table }
+    ensures { (config : Configuration) (moves : List Move) → NoneWaitsBesideARequest (run config moves).subscriptions.table }
 {}
 
 /// Whatever is called, the life counter of a subscription was last set to its lifetime count, and lacks of it one for each
 /// timer that was started since.
 pub fn life_counters_count_timers()
-    ensures { (config : Configuration) (moves : List Move) → let r = run config moves in LivesCountTimers r.rows r.subs.table }
+    ensures { (config : Configuration) (moves : List Move) → let r = run config moves in LivesCountTimers r.rows r.subscriptions.table }
 {}
 
 /// Whatever is called, no keep-alive is skipped: the timers of a subscription that found a request, since it sent a message,
 /// or one of them found none, or its counts were set, are fewer than its keep-alive count.
 pub fn no_keep_alive_is_skipped()
-    ensures { (config : Configuration) (moves : List Move) → let r = run config moves in NoKeepAliveIsSkipped r.rows r.subs.table }
+    ensures { (config : Configuration) (moves : List Move) → let r = run config moves in NoKeepAliveIsSkipped r.rows r.subscriptions.table }
 {}
 
 /// Whatever is called, the messages of a subscription are numbered from 1 without a gap, after the last of 32 bits comes 1,
@@ -181,15 +181,15 @@ pub fn no_keep_alive_is_skipped()
 pub fn all_messages_are_numbered()
     ensures numbered { (config : Configuration) (moves : List Move) → AllAreNumbered (run_made (start config) moves) }
     ensures live { (config : Configuration) (moves : List Move) (number : ℕ) (s : Subscription) →
-        subscription_at number (run config moves).subs.table.subscriptions ≡ Some s →
+        subscription_at number (run config moves).subscriptions.table.subscriptions ≡ Some s →
         AreItsMessages s (messages_for number (run_made (start config) moves)) }
     ensures kept { (config : Configuration) (moves : List Move) (number wanted : ℕ) (bytes : List ℕ) →
-        kept_at number wanted (run config moves).subs.table ≡ Some bytes →
+        kept_at number wanted (run config moves).subscriptions.table ≡ Some bytes →
         IsAmong (record { number = wanted; bytes = bytes }) (messages_for number (run_made (start config) moves)) }
     ensures republished { (config : Configuration) (moves : List Move) (clock : Moment) (session number wanted : ℕ) (bytes : List ℕ) → let r = run config moves in
-        (republished session number wanted (stage_of r.subs r.items clock)).answer ≡ Ok bytes →
+        (republished session number wanted (stage_of r.subscriptions r.items clock)).answer ≡ Ok bytes →
         IsAmong (record { number = wanted; bytes = bytes }) (messages_for number (run_made (start config) moves)) }
-    ensures notes { (config : Configuration) (moves : List Move) → NotesComeNext (run_made (start config) moves) (run config moves).subs.table }
+    ensures notes { (config : Configuration) (moves : List Move) → NotesComeNext (run_made (start config) moves) (run config moves).subscriptions.table }
 {}
 
 /// Whatever is called, each message that a row makes goes out: it answers a Publish request, one message a request, in the
@@ -203,7 +203,7 @@ pub fn messages_are_answers()
 /// are together no more than those that came.
 pub fn requests_are_answered_once()
     ensures { (config : Configuration) (moves : List Move) (such : Origin → Bool) → let r = run config moves in
-        such_answers such r.replies + such_waiting such r.subs.table.sessions ≤ such_came such moves }
+        such_answers such r.replies + such_waiting such r.subscriptions.table.sessions ≤ such_came such moves }
 {}
 
 /// Whatever was called, a request of a session leaves what is of other sessions, or of none, as it was: their queued
@@ -212,8 +212,8 @@ pub fn requests_are_answered_once()
 /// none, and an item of a subscription that the session didn't have was there before.
 pub fn sessions_stay_apart()
     ensures { (config : Configuration) (moves : List Move) (move : Move) (session : ℕ) → let r = run config moves in
-        IsRequestOf session r.subs.table move →
-        OthersStay session r.subs.table r.items (moved r move).subs.table (moved r move).items }
+        IsRequestOf session r.subscriptions.table move →
+        OthersStay session r.subscriptions.table r.items (moved r move).subscriptions.table (moved r move).items }
 {}
 
 /// Whatever is called, the items come by their own calls, from no items on: by what clients ask of them, by what the rows of

@@ -18,9 +18,9 @@ ghost use Rattle.ua_types.specs.declared.status.TheConstants.Status as status;
 pub fn a_shutdown_leaves_nothing()
     ensures answered { (config : Configuration) (moves : List Move) (clock : Moment) → let r = run config moves in
         (moved r (Move.Shutdown clock)).replies ≡ r.replies
-        ++ map (refused_of clock status.BAD_SHUTDOWN) (all_requests (values_of r.subs.table.sessions)) }
+        ++ map (refused_of clock status.BAD_SHUTDOWN) (all_requests (values_of r.subscriptions.table.sessions)) }
     ensures nothing { (config : Configuration) (moves : List Move) (clock : Moment) →
-        (moved (run config moves) (Move.Shutdown clock)).subs.table ≡ no_table }
+        (moved (run config moves) (Move.Shutdown clock)).subscriptions.table ≡ no_table }
     ensures concerned { (config : Configuration) (moves : List Move) (clock : Moment) → let r = run config moves in
-        map subscription_of (concerned_spec r (Move.Shutdown clock)) ≡ keys_of r.subs.table.subscriptions }
+        map subscription_of (concerned_spec r (Move.Shutdown clock)) ≡ keys_of r.subscriptions.table.subscriptions }
 {}

@@ -34,10 +34,10 @@ pub fn keep_alives_are_numbered()
 /// out, beside what became of the request's acknowledgements, with nothing kept and no more to come. The note is gone then.
 pub fn time_outs_are_noted()
     ensures answer { (config : Configuration) (moves : List Move) (clock : Moment) (session : ℕ) (asked : PublishCall) (acks : List SubscriptionAcknowledgement) (note : TimeoutNote) → let r = run config moves in
-        note_of session r.subs.table.sessions ≡ Some note →
+        note_of session r.subscriptions.table.sessions ≡ Some note →
         (moved r (Move.Publish clock session asked acks)).replies
-        ≡ r.replies ++ published_of clock (with_results asked (acknowledged_all session r.subs.table.subscriptions acks).results) note.subscription [] false (timeout_message note.number clock) ∷ [] }
+        ≡ r.replies ++ published_of clock (with_results asked (acknowledged_all session r.subscriptions.table.subscriptions acks).results) note.subscription [] false (timeout_message note.number clock) ∷ [] }
     ensures taken { (config : Configuration) (moves : List Move) (clock : Moment) (session : ℕ) (asked : PublishCall) (acks : List SubscriptionAcknowledgement) (note : TimeoutNote) → let r = run config moves in
-        note_of session r.subs.table.sessions ≡ Some note →
-        (part_at session (moved r (Move.Publish clock session asked acks)).subs.table.sessions).notes ≡ drop 1 (part_at session r.subs.table.sessions).notes }
+        note_of session r.subscriptions.table.sessions ≡ Some note →
+        (part_at session (moved r (Move.Publish clock session asked acks)).subscriptions.table.sessions).notes ≡ drop 1 (part_at session r.subscriptions.table.sessions).notes }
 {}

@@ -139,15 +139,15 @@ module _ (Such : ℕ → Type 0) where
   first_only : {A : Type 0} (state : Services) (caller : Caller) (body : A → List ℕ) (said : Said A) → Such caller.origin.conn → SaysOnly Such said → said.state.halted ≡ None → ServesOnly Such (called state (λ answer. reply_of caller (body answer) ∷ []) said)
   first_only state caller body said q p going = record { state = (p.queued, going); replies = (q, p.replies) }
 
-  told_only : (state : Services) (w : Stage) → SaysOnly Such (without_answer state.subs w) → state.subs.halted ≡ None → ServesOnly Such (called_alone state w)
+  told_only : (state : Services) (w : Stage) → SaysOnly Such (without_answer state.subscriptions w) → state.subscriptions.halted ≡ None → ServesOnly Such (called_alone state w)
   unfolding called_alone
-  told_only state w p going = called_only state no_reply (without_answer state.subs w) (λ x. tt) p going
+  told_only state w p going = called_only state no_reply (without_answer state.subscriptions w) (λ x. tt) p going
 
   then_only : (s : Serving) (more : Services → Serving) → ServesOnly Such s → ((state : Services) → OwesOnly Such state → ServesOnly Such (more state)) → ServesOnly Such (and_then s more)
   then_only s more p f = let t = f s.state p.state in record { state = t.state; replies = both_replied s.replies (more s.state).replies p.replies t.replies }
 
   over_only : (setting : Setting) (deleting : Bool) (number : ℕ) (state : Services) → OwesOnly Such state → ServesOnly Such (session_over setting deleting number state)
-  over_only setting deleting number state p = told_only state _ (session_end_owes_only Such state.subs state.items setting.clock number deleting p.0) p.1
+  over_only setting deleting number state p = told_only state _ (session_end_owes_only Such state.subscriptions state.items setting.clock number deleting p.0) p.1
 
   all_timed_out_only : (setting : Setting) (numbers : List ℕ) (s : Serving) → ServesOnly Such s → ServesOnly Such (fold (timed_out setting) s numbers)
   unfolding timed_out
@@ -236,15 +236,15 @@ module _ (Such : ℕ → Type 0) where
 
   create_subscription_only : (setting : Setting) (caller : Caller) → Such caller.origin.conn → (session : ℕ) (request : CreateSubscriptionRequest) (state : Services) → OwesOnly Such state → ServesOnly Such (create_subscription_meaning setting caller session request state)
   create_subscription_only setting caller q session request state p =
-      first_only state caller (create_subscription_body setting caller) (created session (settings_asked request) request.publishing_enabled state.subs state.items setting.clock) q (create_owes_only Such state.subs state.items setting.clock session (settings_asked request) request.publishing_enabled p.0) (created_halts session (settings_asked request) request.publishing_enabled state.subs state.items setting.clock ∙ p.1)
+      first_only state caller (create_subscription_body setting caller) (created session (settings_asked request) request.publishing_enabled state.subscriptions state.items setting.clock) q (create_owes_only Such state.subscriptions state.items setting.clock session (settings_asked request) request.publishing_enabled p.0) (created_halts session (settings_asked request) request.publishing_enabled state.subscriptions state.items setting.clock ∙ p.1)
 
   modify_subscription_only : (setting : Setting) (caller : Caller) → Such caller.origin.conn → (session : ℕ) (request : ModifySubscriptionRequest) (state : Services) → OwesOnly Such state → ServesOnly Such (modify_subscription_meaning setting caller session request state)
   modify_subscription_only setting caller q session request state p =
-      first_only state caller (modify_subscription_body setting caller) (said state.subs (modified session request.subscription_id (settings_wanted request) (stage_at setting state))) q (modify_owes_only Such state.subs state.items setting.clock session request.subscription_id (settings_wanted request) p.0) p.1
+      first_only state caller (modify_subscription_body setting caller) (said state.subscriptions (modified session request.subscription_id (settings_wanted request) (stage_at setting state))) q (modify_owes_only Such state.subscriptions state.items setting.clock session request.subscription_id (settings_wanted request) p.0) p.1
 
   publishing_listed_only : (setting : Setting) (caller : Caller) (session : ℕ) (enabled : Bool) (state : Services) → OwesOnly Such state → Such caller.origin.conn → (r : Result (List ℕ) Status) → ServesOnly Such (set_publishing_listed setting caller session enabled state r)
   publishing_listed_only setting caller session enabled state p q (Ok numbers) =
-      first_only state caller (statuses_body SET_PUBLISHING_MODE_RESPONSE setting caller) (said state.subs (named_all session (SetMode enabled) (stage_at setting state) numbers)) q (set_mode_owes_only Such state.subs state.items setting.clock session numbers enabled p.0) p.1
+      first_only state caller (statuses_body SET_PUBLISHING_MODE_RESPONSE setting caller) (said state.subscriptions (named_all session (SetMode enabled) (stage_at setting state) numbers)) q (set_mode_owes_only Such state.subscriptions state.items setting.clock session numbers enabled p.0) p.1
   publishing_listed_only setting caller session enabled state p q (Err code) = record { state = p; replies = (q, tt) }
 
   set_publishing_mode_only : (setting : Setting) (caller : Caller) → Such caller.origin.conn → (session : ℕ) (request : SetPublishingModeRequest) (state : Services) → OwesOnly Such state → ServesOnly Such (set_publishing_mode_meaning setting caller session request state)
@@ -252,7 +252,7 @@ module _ (Such : ℕ → Type 0) where
 
   subscriptions_deleted_only : (setting : Setting) (caller : Caller) (session : ℕ) (state : Services) → OwesOnly Such state → Such caller.origin.conn → (r : Result (List ℕ) Status) → ServesOnly Such (delete_subscriptions_listed setting caller session state r)
   subscriptions_deleted_only setting caller session state p q (Ok numbers) =
-      first_only state caller (statuses_body DELETE_SUBSCRIPTIONS_RESPONSE setting caller) (said state.subs (deleted session (stage_at setting state) numbers)) q (delete_owes_only Such state.subs state.items setting.clock session numbers p.0) p.1
+      first_only state caller (statuses_body DELETE_SUBSCRIPTIONS_RESPONSE setting caller) (said state.subscriptions (deleted session (stage_at setting state) numbers)) q (delete_owes_only Such state.subscriptions state.items setting.clock session numbers p.0) p.1
   subscriptions_deleted_only setting caller session state p q (Err code) = record { state = p; replies = (q, tt) }
 
   delete_subscriptions_only : (setting : Setting) (caller : Caller) → Such caller.origin.conn → (session : ℕ) (request : DeleteSubscriptionsRequest) (state : Services) → OwesOnly Such state → ServesOnly Such (delete_subscriptions_meaning setting caller session request state)
@@ -262,18 +262,18 @@ module _ (Such : ℕ → Type 0) where
   publish_only setting caller q session request state p =
       let acks = or_none request.subscription_acknowledgements in
       either (nat_lt setting.config.operations (length acks)) _ _ (record { state = p; replies = (q, tt) })
-      (told_only state _ (publish_owes_only Such state.subs state.items setting.clock session (publish_call caller) acks q p.0) p.1)
+      (told_only state _ (publish_owes_only Such state.subscriptions state.items setting.clock session (publish_call caller) acks q p.0) p.1)
 
   republish_only : (setting : Setting) (caller : Caller) → Such caller.origin.conn → (session : ℕ) (request : RepublishRequest) (state : Services) → OwesOnly Such state → ServesOnly Such (republish_meaning setting caller session request state)
   republish_only setting caller q session request state p =
-      first_only state caller (republish_answer setting caller) (said state.subs (republished session request.subscription_id request.retransmit_sequence_number (stage_at setting state))) q (republish_owes_only Such state.subs state.items setting.clock session request.subscription_id request.retransmit_sequence_number p.0) p.1
+      first_only state caller (republish_answer setting caller) (said state.subscriptions (republished session request.subscription_id request.retransmit_sequence_number (stage_at setting state))) q (republish_owes_only Such state.subscriptions state.items setting.clock session request.subscription_id request.retransmit_sequence_number p.0) p.1
 
   -- ---- monitored items
 
   items_called_only : (setting : Setting) (caller : Caller) (number : ℕ) (state : Services) (done : Itemed) → OwesOnly Such state → Such caller.origin.conn → (before : Option Vars) → ServesOnly Such (items_called_by setting caller number state done before)
   items_called_only setting caller number state done p q None = record { state = p; replies = (q, tt) }
   items_called_only setting caller number state done p q (Some before) =
-      first_only (with_items state done.items) caller (λ (x : Unit {0}). done.body) (without_answer state.subs (met (stage_at setting (with_items state done.items)) number (Items before))) q (items_owes_only Such state.subs done.items setting.clock number before p.0) p.1
+      first_only (with_items state done.items) caller (λ (x : Unit {0}). done.body) (without_answer state.subscriptions (met (stage_at setting (with_items state done.items)) number (Items before))) q (items_owes_only Such state.subscriptions done.items setting.clock number before p.0) p.1
 
   picked_only : (setting : Setting) (caller : Caller) (token : NodeId) (fields : List ℕ) (state : Services) (service : Option Service) → OwesOnly Such state → Such caller.origin.conn → ServesOnly Such (served_as setting caller token fields state service)
   picked_only setting caller token fields state (Some Service.GetEndpoints) p q = by_fields get_endpoints_meaning setting caller token state p q (get_endpoints_only setting caller token state p q) (fields_of get_endpoints_request_reading fields)
@@ -313,25 +313,25 @@ module _ (Such : ℕ → Type 0) where
       let after = with_sessions state (ticked state.sessions setting.clock) in
       let ended = ended_by state.sessions setting.clock in
       then_only (all_timed_out setting after ended) (timers_met setting) (all_timed_out_only setting ended (nothing_done after) (record { state = p; replies = tt }))
-      (λ mid owes. told_only mid _ (timers_owe_only Such mid.subs mid.items setting.clock owes.0) owes.1)
+      (λ mid owes. told_only mid _ (timers_owe_only Such mid.subscriptions mid.items setting.clock owes.0) owes.1)
 
   -- what the server's end answers, and nobody waits then
   pub shutting_only : (setting : Setting) (state : Services) → OwesOnly Such state → ServesOnly Such (shutting_of setting state)
   unfolding shutting_of
   shutting_only setting state p =
-      let s = told_only state (shut_down (stage_at setting state)) (shut_down_owes_only Such state.subs state.items setting.clock p.0) p.1 in
+      let s = told_only state (shut_down (stage_at setting state)) (shut_down_owes_only Such state.subscriptions state.items setting.clock p.0) p.1 in
       record { state = s.state; replies = s.replies }
 
   -- a connection that is forgotten waits for nothing
   pub forgotten_only : (state : Services) (conn : ℕ) → OwesOnly Such state → OwesOnly (λ (other : ℕ). Such other × (other ≢ conn)) (forgotten state conn)
-  forgotten_only state conn p = (without_conn_queued Such conn state.subs.table p.0, p.1)
+  forgotten_only state conn p = (without_conn_queued Such conn state.subscriptions.table p.0, p.1)
 
 -- whoever asked, nothing waits once the server has ended
 pub shutting_owes_none : (Asked Such : ℕ → Type 0) (setting : Setting) (state : Services) → OwesOnly Asked (shutting_of setting state).state → OwesOnly Such (shutting_of setting state).state
 unfolding shutting_of called_alone
-shutting_owes_none Asked Such setting state p = (shut_down_queued Such state.subs state.items setting.clock, p.1)
+shutting_owes_none Asked Such setting state p = (shut_down_queued Such state.subscriptions state.items setting.clock, p.1)
 
 -- what is true of more connections
 module _ (Such More : ℕ → Type 0) (f : (conn : ℕ) → Such conn → More conn) where
   pub owes_more : (state : Services) → OwesOnly Such state → OwesOnly More state
-  owes_more state p = (queued_more Such More f state.subs.table.sessions p.0, p.1)
+  owes_more state p = (queued_more Such More f state.subscriptions.table.sessions p.0, p.1)

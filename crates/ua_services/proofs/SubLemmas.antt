@@ -33,7 +33,7 @@ use Rattle.ua_services.specs.ServicesState.{Services}
 use Rattle.ua_services.specs.Serving.{Occurrence, Serving, Given, Serves, is_spent, given, given_of, rows_of, stored_of, served, joined, reply_of, reply_before, Judges}
 use Rattle.ua_services.specs.Serving.Occurrence.{Fire, Store, Spent}
 use Rattle.ua_services.specs.declared.caller.Caller.{Caller}
-use Rattle.ua_services.specs.SubServing.{with_subs, fires, uncounted, is_uncounted, occurrences_of, called, no_reply, called_alone, nothing_done, both, and_then, session_over, timed_out, all_timed_out, timers_met, stage_at}
+use Rattle.ua_services.specs.SubServing.{with_subscriptions, fires, uncounted, is_uncounted, occurrences_of, called, no_reply, called_alone, nothing_done, both, and_then, session_over, timed_out, all_timed_out, timers_met, stage_at}
 
 -- ---- rows, and serials that are spent
 
@@ -110,52 +110,52 @@ counted_out (Some halt) round h = refl
 -- ---- one call
 
 module _ {A : Type 0} (state : Services) (own : A → List Reply) (said : Said A) where
-  pub called_gives : (x : Answered A) (new : SubscriptionsState) (items : ItemsState) (given_served : Served) → subs.Serves (Ok x) state.subs new items said → given_served ≡ served (own x.answer ++ x.replies) x.rows →
-      given (with_subs state new items) given_served ≡ given_of (called state own said)
+  pub called_gives : (x : Answered A) (new : SubscriptionsState) (items : ItemsState) (given_served : Served) → subs.Serves (Ok x) state.subscriptions new items said → given_served ≡ served (own x.answer ++ x.replies) x.rows →
+      given (with_subscriptions state new items) given_served ≡ given_of (called state own said)
   called_gives x new items given_served h e =
       let round = said.outcome.stage.round in
-      ap (given (with_subs state new items)) e
-      ∙ ap (λ (y : Answered A). given (with_subs state new items) (served (own y.answer ++ y.replies) y.rows)) h.1
-      ∙ ap (λ (s : SubscriptionsState). given (with_subs state s items) (served (own said.outcome.answer ++ round.replies) round.rows)) h.2
-      ∙ ap (λ (i : ItemsState). given (with_subs state said.state i) (served (own said.outcome.answer ++ round.replies) round.rows)) h.3
-      ∙ ap (λ (rows : List Fired). given (with_subs state said.state said.outcome.stage.items) (served (own said.outcome.answer ++ round.replies) rows)) (sym (rows_of_round state.subs.halted round))
-      ∙ ap (λ (ss : List Stored). let g : Given = given (with_subs state said.state said.outcome.stage.items) (record { replies = own said.outcome.answer ++ round.replies; rows = rows_of (occurrences_of state.subs.halted round); stored = ss }) in g)
-      (sym (rounds_store_none state.subs.halted round))
-      ∙ ap (λ (b : Bool). let g : Given = record (given_of (called state own said)) { spends = b } in g) (sym (counted_in state.subs.halted round h.0 h.4))
+      ap (given (with_subscriptions state new items)) e
+      ∙ ap (λ (y : Answered A). given (with_subscriptions state new items) (served (own y.answer ++ y.replies) y.rows)) h.1
+      ∙ ap (λ (s : SubscriptionsState). given (with_subscriptions state s items) (served (own said.outcome.answer ++ round.replies) round.rows)) h.2
+      ∙ ap (λ (i : ItemsState). given (with_subscriptions state said.state i) (served (own said.outcome.answer ++ round.replies) round.rows)) h.3
+      ∙ ap (λ (rows : List Fired). given (with_subscriptions state said.state said.outcome.stage.items) (served (own said.outcome.answer ++ round.replies) rows)) (sym (rows_of_round state.subscriptions.halted round))
+      ∙ ap (λ (ss : List Stored). let g : Given = given (with_subscriptions state said.state said.outcome.stage.items) (record { replies = own said.outcome.answer ++ round.replies; rows = rows_of (occurrences_of state.subscriptions.halted round); stored = ss }) in g)
+      (sym (rounds_store_none state.subscriptions.halted round))
+      ∙ ap (λ (b : Bool). let g : Given = record (given_of (called state own said)) { spends = b } in g) (sym (counted_in state.subscriptions.halted round h.0 h.4))
 
-  pub called_halts : (halt : Halt) (new : SubscriptionsState) (items : ItemsState) → subs.Serves (Err halt) state.subs new items said → Serves (Err halt) (with_subs state new items) (called state own said)
+  pub called_halts : (halt : Halt) (new : SubscriptionsState) (items : ItemsState) → subs.Serves (Err halt) state.subscriptions new items said → Serves (Err halt) (with_subscriptions state new items) (called state own said)
   called_halts Memory new items h = tt
   called_halts Exhausted new items h =
       let round = said.outcome.stage.round in
-      spent_right (fires round.rows) (uncounted state.subs.halted round) (any_spent (is_uncounted state.subs.halted round) (counted_out state.subs.halted round h.1))
+      spent_right (fires round.rows) (uncounted state.subscriptions.halted round) (any_spent (is_uncounted state.subscriptions.halted round) (counted_out state.subscriptions.halted round h.1))
 
 -- a call that answers Publish requests alone
 module _ (state : Services) (w : Stage) where
-  pub told_gives : (x : Answered (Unit {0})) (new : SubscriptionsState) (items : ItemsState) (given_served : Served) → subs.Serves (Ok x) state.subs new items (without_answer state.subs w) → given_served ≡ served x.replies x.rows →
-      given (with_subs state new items) given_served ≡ given_of (called_alone state w)
+  pub told_gives : (x : Answered (Unit {0})) (new : SubscriptionsState) (items : ItemsState) (given_served : Served) → subs.Serves (Ok x) state.subscriptions new items (without_answer state.subscriptions w) → given_served ≡ served x.replies x.rows →
+      given (with_subscriptions state new items) given_served ≡ given_of (called_alone state w)
   unfolding called_alone
-  told_gives x new items given_served h e = called_gives state no_reply (without_answer state.subs w) x new items given_served h e
+  told_gives x new items given_served h e = called_gives state no_reply (without_answer state.subscriptions w) x new items given_served h e
 
-  pub told_halts : (halt : Halt) (new : SubscriptionsState) (items : ItemsState) → subs.Serves (Err halt) state.subs new items (without_answer state.subs w) → Serves (Err halt) (with_subs state new items) (called_alone state w)
+  pub told_halts : (halt : Halt) (new : SubscriptionsState) (items : ItemsState) → subs.Serves (Err halt) state.subscriptions new items (without_answer state.subscriptions w) → Serves (Err halt) (with_subscriptions state new items) (called_alone state w)
   unfolding called_alone
-  told_halts halt new items h = called_halts state no_reply (without_answer state.subs w) halt new items h
+  told_halts halt new items h = called_halts state no_reply (without_answer state.subscriptions w) halt new items h
 
   -- the same of a service that refuses no such call
-  pub told_judged : (setting : Setting) (caller : Caller) (halt : Halt) (new : SubscriptionsState) (items : ItemsState) → subs.Serves (Err halt) state.subs new items (without_answer state.subs w) → Judges setting caller (Err (refusal_of halt)) (with_subs state new items) (called_alone state w)
+  pub told_judged : (setting : Setting) (caller : Caller) (halt : Halt) (new : SubscriptionsState) (items : ItemsState) → subs.Serves (Err halt) state.subscriptions new items (without_answer state.subscriptions w) → Judges setting caller (Err (refusal_of halt)) (with_subscriptions state new items) (called_alone state w)
   unfolding called_alone
   told_judged setting caller Memory new items h = refl
-  told_judged setting caller Exhausted new items h = called_halts state no_reply (without_answer state.subs w) Exhausted new items h
+  told_judged setting caller Exhausted new items h = called_halts state no_reply (without_answer state.subscriptions w) Exhausted new items h
 
 -- a shutdown that halts does so for its subscriptions
-pub shutting_halts : (setting : Setting) (state : Services) (halt : Halt) (new : SubscriptionsState) (items : ItemsState) → subs.Serves (Err halt) state.subs new items (without_answer state.subs (shut_down (stage_at setting state))) → Serves (Err halt) (with_subs state new items) (shutting_of setting state)
+pub shutting_halts : (setting : Setting) (state : Services) (halt : Halt) (new : SubscriptionsState) (items : ItemsState) → subs.Serves (Err halt) state.subscriptions new items (without_answer state.subscriptions (shut_down (stage_at setting state))) → Serves (Err halt) (with_subscriptions state new items) (shutting_of setting state)
 unfolding shutting_of
 shutting_halts setting state Memory new items h = tt
 shutting_halts setting state Exhausted new items h = told_halts state (shut_down (stage_at setting state)) Exhausted new items h
 
 -- a call whose answer is told first, and then what else is served
-pub called_first : {A : Type 0} (state : Services) (caller : Caller) (body : A → List ℕ) (said : Said A) (x : Answered A) (new : SubscriptionsState) (items : ItemsState) (others : Served) (bytes : List ℕ) (all : Served) → subs.Serves (Ok x) state.subs new items said →
+pub called_first : {A : Type 0} (state : Services) (caller : Caller) (body : A → List ℕ) (said : Said A) (x : Answered A) (new : SubscriptionsState) (items : ItemsState) (others : Served) (bytes : List ℕ) (all : Served) → subs.Serves (Ok x) state.subscriptions new items said →
     others ≡ served x.replies x.rows → bytes ≡ body x.answer → all ≡ reply_before (reply_of caller bytes) others →
-    given (with_subs state new items) all ≡ given_of (called state (λ answer. reply_of caller (body answer) ∷ []) said)
+    given (with_subscriptions state new items) all ≡ given_of (called state (λ answer. reply_of caller (body answer) ∷ []) said)
 called_first state caller body said x new items others bytes all h o b e =
     called_gives state (λ answer. reply_of caller (body answer) ∷ []) said x new items all h
     (e ∙ ap (λ (bs : List ℕ). reply_before (reply_of caller bs) others) b ∙ ap (reply_before (reply_of caller (body x.answer))) o)
@@ -276,7 +276,7 @@ is_nothing : (numbers : List ℕ) → is_none numbers ≡ true → numbers ≡ [
 is_nothing [] h = refl
 is_nothing (number ∷ numbers) h = absurd (false≢true h)
 
-says_nothing : (setting : Setting) (state : Services) (numbers : List ℕ) → numbers ≡ [] → due_numbers setting.clock state.subs.table.subscriptions ≡ [] →
+says_nothing : (setting : Setting) (state : Services) (numbers : List ℕ) → numbers ≡ [] → due_numbers setting.clock state.subscriptions.table.subscriptions ≡ [] →
     (and_then (all_timed_out setting state numbers) (timers_met setting)).replies ≡ []
 unfolding called_alone
 says_nothing setting state numbers none not_due =
@@ -287,8 +287,8 @@ says_nothing setting state numbers none not_due =
 pub idle_is_silent : (setting : Setting) (state : Services) → is_idle setting state ≡ true → (ticking_of setting state).replies ≡ []
 idle_is_silent setting state h =
     let ended = is_none (ended_by state.sessions setting.clock) in
-    let due = is_any_due setting.clock state.subs.table.subscriptions in
-    let going = both_true (ended && not due) (not (is_some state.subs.halted)) h in
+    let due = is_any_due setting.clock state.subscriptions.table.subscriptions in
+    let going = both_true (ended && not due) (not (is_some state.subscriptions.halted)) h in
     let still = both_true ended (not due) going.0 in
     says_nothing setting (with_sessions state (ticked state.sessions setting.clock)) (ended_by state.sessions setting.clock) (is_nothing (ended_by state.sessions setting.clock) still.0)
-    (none_due setting.clock state.subs.table.subscriptions (is_false due still.1))
+    (none_due setting.clock state.subscriptions.table.subscriptions (is_false due still.1))

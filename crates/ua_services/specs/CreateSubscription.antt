@@ -41,4 +41,4 @@ create_subscription_body setting caller (Err code) = fault_body caller.origin.ha
 abbrev pub create_subscription_meaning : Setting → Caller → ℕ → CreateSubscriptionRequest → Services → Serving
 create_subscription_meaning setting caller session request state =
     called state (λ answer. reply_of caller (create_subscription_body setting caller answer) ∷ [])
-    (created session (settings_asked request) request.publishing_enabled state.subs state.items setting.clock)
+    (created session (settings_asked request) request.publishing_enabled state.subscriptions state.items setting.clock)

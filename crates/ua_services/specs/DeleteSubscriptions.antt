@@ -16,7 +16,7 @@ use Rattle.ua_services.specs.declared.caller.Caller.{Caller}
 abbrev pub delete_subscriptions_listed : Setting → Caller → ℕ → Services → Result (List ℕ) Status → Serving
 delete_subscriptions_listed setting caller session state (Ok numbers) =
     called state (λ statuses. reply_of caller (statuses_body DELETE_SUBSCRIPTIONS_RESPONSE setting caller statuses) ∷ [])
-    (said state.subs (deleted session (stage_at setting state) numbers))
+    (said state.subscriptions (deleted session (stage_at setting state) numbers))
 delete_subscriptions_listed setting caller session state (Err code) = faulted state caller code setting.clock
 
 -- the list is judged first; then each subscription goes. Where the session has none left, its Publish requests are answered

@@ -53,12 +53,12 @@ Refuses setting caller refusals.Exhausted old new done = ⊥
 
 -- the variables of a subscription, if it is one of the session's
 abbrev pub own_vars : ℕ → ℕ → Services → Option Vars
-own_vars session number state = if is_own state.subs.table session number then vars_found number state.items state.subs.table else None
+own_vars session number state = if is_own state.subscriptions.table session number then vars_found number state.items state.subscriptions.table else None
 
 -- its subscription fires a row, whatever became of the request
 abbrev pub fired_after : Setting → Caller → ℕ → Services → Vars → List ℕ → Serving
 fired_after setting caller number state before body =
-    called state (λ done. reply_of caller body ∷ []) (without_answer state.subs (met (stage_at setting state) number (Items before)))
+    called state (λ done. reply_of caller body ∷ []) (without_answer state.subscriptions (met (stage_at setting state) number (Items before)))
 
 abbrev pub items_called_by : Setting → Caller → ℕ → Services → Itemed → Option Vars → Serving
 items_called_by setting caller number state done None = faulted state caller status.BAD_SUBSCRIPTION_ID_INVALID setting.clock

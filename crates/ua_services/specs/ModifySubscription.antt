@@ -41,4 +41,4 @@ modify_subscription_body setting caller (Err code) = fault_body caller.origin.ha
 abbrev pub modify_subscription_meaning : Setting → Caller → ℕ → ModifySubscriptionRequest → Services → Serving
 modify_subscription_meaning setting caller session request state =
     called state (λ answer. reply_of caller (modify_subscription_body setting caller answer) ∷ [])
-    (said state.subs (modified session request.subscription_id (settings_wanted request) (stage_at setting state)))
+    (said state.subscriptions (modified session request.subscription_id (settings_wanted request) (stage_at setting state)))

@@ -6,7 +6,7 @@ use Rattle.ua_services.specs.Serving.{Serving}
 
 -- every Publish request that waits came by such a connection, and the subscriptions aren't halted
 abbrev pub OwesOnly : (ℕ → Type 0) → Services → Type 0
-OwesOnly Such state = QueuedBy Such state.subs.table.sessions × (state.subs.halted ≡ None)
+OwesOnly Such state = QueuedBy Such state.subscriptions.table.sessions × (state.subscriptions.halted ≡ None)
 
 -- the connections that are answered, and those that wait, are such
 pub record ServesOnly (Such : ℕ → Type 0) (s : Serving) : Type 0 where

@@ -22,4 +22,4 @@ republish_answer setting caller (Err code) = fault_body caller.origin.handle cod
 abbrev pub republish_meaning : Setting → Caller → ℕ → RepublishRequest → Services → Serving
 republish_meaning setting caller session request state =
     called state (λ answer. reply_of caller (republish_answer setting caller answer) ∷ [])
-    (said state.subs (republished session request.subscription_id request.retransmit_sequence_number (stage_at setting state)))
+    (said state.subscriptions (republished session request.subscription_id request.retransmit_sequence_number (stage_at setting state)))

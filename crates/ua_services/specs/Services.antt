@@ -129,7 +129,7 @@ ticking_of setting state =
 -- whether nothing is due at a tick, and the subscriptions go on
 abbrev pub is_idle : Setting → Services → Bool
 is_idle setting state =
-    is_none (ended_by state.sessions setting.clock) && not (is_any_due setting.clock state.subs.table.subscriptions) && not (is_some state.subs.halted)
+    is_none (ended_by state.sessions setting.clock) && not (is_any_due setting.clock state.subscriptions.table.subscriptions) && not (is_some state.subscriptions.halted)
 
 -- the server ends: all subscriptions do, the Publish requests that wait are answered, and no session is left
 unfoldable pub shutting_of : Setting → Services → Serving
@@ -139,4 +139,4 @@ shutting_of setting state =
 
 -- what is kept once a connection is closed or gone: the Publish requests that came by it wait no more
 abbrev pub forgotten : Services → ℕ → Services
-forgotten state conn = let subs : SubscriptionsState = state.subs in record state { subs = record subs { table = without_conn conn subs.table } }
+forgotten state conn = let subscriptions : SubscriptionsState = state.subscriptions in record state { subscriptions = record subscriptions { table = without_conn conn subscriptions.table } }

@@ -15,5 +15,5 @@ no_services_used config space = record {
   sessions = no_sessions config;
   history = histories_begun config space.nodes;
   items = no_items config;
-  subs = no_subscriptions config;
+  subscriptions = no_subscriptions config;
 }

@@ -17,7 +17,7 @@ use Rattle.ua_services.specs.declared.caller.Caller.{Caller}
 abbrev pub set_publishing_listed : Setting → Caller → ℕ → Bool → Services → Result (List ℕ) Status → Serving
 set_publishing_listed setting caller session enabled state (Ok numbers) =
     called state (λ statuses. reply_of caller (statuses_body SET_PUBLISHING_MODE_RESPONSE setting caller statuses) ∷ [])
-    (said state.subs (named_all session (SetMode enabled) (stage_at setting state) numbers))
+    (said state.subscriptions (named_all session (SetMode enabled) (stage_at setting state) numbers))
 set_publishing_listed setting caller session enabled state (Err code) = faulted state caller code setting.clock
 
 -- the list is judged first; then the notifications of each subscription are switched on or off

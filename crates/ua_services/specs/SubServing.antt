@@ -15,8 +15,8 @@ use Rattle.ua_services.specs.ServicesState.{Services}
 use Rattle.ua_services.specs.Serving.{Occurrence, Serving}
 use Rattle.ua_services.specs.Serving.Occurrence.{Fire, Spent}
 
-abbrev pub with_subs : Services → SubscriptionsState → ItemsState → Services
-with_subs state subs items = record state { items = items; subs = subs }
+abbrev pub with_subscriptions : Services → SubscriptionsState → ItemsState → Services
+with_subscriptions state subscriptions items = record state { items = items; subscriptions = subscriptions }
 
 abbrev pub fires : List Fired → List Occurrence
 fires [] = []
@@ -37,22 +37,22 @@ occurrences_of halted round = fires round.rows ++ uncounted halted round
 -- what a call of the subscriptions comes to: the reply to its own request, then those to Publish requests
 abbrev pub called : {A : Type 0} → Services → (A → List Reply) → Said A → Serving
 called state own said = record {
-  state = with_subs state said.state said.outcome.stage.items;
+  state = with_subscriptions state said.state said.outcome.stage.items;
   replies = own said.outcome.answer ++ said.outcome.stage.round.replies;
-  occurrences = occurrences_of state.subs.halted said.outcome.stage.round;
+  occurrences = occurrences_of state.subscriptions.halted said.outcome.stage.round;
   is_refused = false;
 }
 
 -- where a call of the subscriptions begins
 abbrev pub stage_at : Setting → Services → Stage
-stage_at setting state = stage_of state.subs state.items setting.clock
+stage_at setting state = stage_of state.subscriptions state.items setting.clock
 
 abbrev pub no_reply : {A : Type 0} → A → List Reply
 no_reply x = []
 
 -- a call that answers Publish requests alone
 unfoldable pub called_alone : Services → Stage → Serving
-called_alone state w = called state no_reply (without_answer state.subs w)
+called_alone state w = called state no_reply (without_answer state.subscriptions w)
 
 -- ---- one step of the services behind another
 

@@ -40,7 +40,7 @@ impl<'a> SessionService<'a> for DeleteSubscriptions {
             clock: setting.clock,
         };
         let items = &mut services.items;
-        let answered = services.subs.delete(items, requester, numbers)?;
+        let answered = services.subscriptions.delete(items, requester, numbers)?;
         let (statuses, others) = apart(alloc, answered);
         let type_id = type_ids::DELETE_SUBSCRIPTIONS_RESPONSE;
         let body = statuses_body(alloc, type_id, setting, caller, statuses.as_slice())?;

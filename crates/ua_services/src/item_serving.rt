@@ -79,8 +79,8 @@ pub trait ItemService<'a> {
 fn own_vars(services: &Services, session: u32, subscription: SubscriptionId) -> Option<Vars>
     ensures { result ≡ own_vars_spec session subscription services.now }
 {
-    if services.subs.is_own(session, subscription) {
-        services.subs.vars(subscription, &services.items)
+    if services.subscriptions.is_own(session, subscription) {
+        services.subscriptions.vars(subscription, &services.items)
     } else {
         None
     }
@@ -100,7 +100,7 @@ fn answer_items(
 {
     let alloc = services.allocator();
     let items = &mut services.items;
-    let answered = services.subs.items(items, setting.clock, number, before)?;
+    let answered = services.subscriptions.items(items, setting.clock, number, before)?;
     Ok(reply_first(alloc, caller, body, served_alone(alloc, answered))?)
 }
 

@@ -71,7 +71,7 @@ impl<'a> SessionService<'a> for ModifySubscription {
         };
         let items = &mut services.items;
         let answered = services
-            .subs
+            .subscriptions
             .modify(items, requester, subscription, settings)?;
         let (answer, others) = apart(alloc, answered);
         let body = answer_body(alloc, setting, caller, answer)?;

@@ -38,7 +38,7 @@ fn taken(
     };
     let items = &mut services.items;
     let answered = services
-        .subs
+        .subscriptions
         .publish(items, requester, publish, acknowledgements)?;
     Ok(served_alone(alloc, answered))
 }

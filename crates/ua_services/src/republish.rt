@@ -60,7 +60,7 @@ impl<'a> SessionService<'a> for Republish {
         };
         let items = &mut services.items;
         let answered = services
-            .subs
+            .subscriptions
             .republish(items, requester, subscription, wanted)?;
         let (answer, others) = apart(alloc, answered);
         let body = answer_body(alloc, setting, caller, answer)?;

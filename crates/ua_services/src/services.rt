@@ -57,7 +57,7 @@ pub struct Services {
     /// What is watched of its nodes.
     pub items: Items,
     /// The subscriptions of its clients, and the Publish requests that wait.
-    pub subs: Subscriptions,
+    pub subscriptions: Subscriptions,
 }
 
 impl Services {
@@ -73,7 +73,7 @@ impl Services {
             sessions: Sessions::new(alloc, config),
             history,
             items: Items::new(alloc, config),
-            subs: Subscriptions::new(alloc, config),
+            subscriptions: Subscriptions::new(alloc, config),
         })
     }
 
@@ -193,7 +193,7 @@ impl Services {
     {
         let alloc = self.allocator();
         let items = &mut self.items;
-        let answered = self.subs.shut_down(items, setting.clock)?;
+        let answered = self.subscriptions.shut_down(items, setting.clock)?;
         self.sessions.end_all(alloc);
         Ok(served_alone(alloc, answered))
     }
@@ -202,6 +202,6 @@ impl Services {
     pub fn forget(&mut self, conn: u64)
         ensures { self.new ≡ forgotten self.old conn }
     {
-        self.subs.gone(conn);
+        self.subscriptions.gone(conn);
     }
 }

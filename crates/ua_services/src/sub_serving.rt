@@ -80,7 +80,7 @@ pub(crate) fn end_session(
 {
     let items = &mut services.items;
     let answered = services
-        .subs
+        .subscriptions
         .session_end(items, setting.clock, number, deleting)?;
     Ok(served_alone(services.allocator(), answered))
 }
@@ -109,9 +109,9 @@ pub(crate) fn end_sessions(
 /// The timers of the subscriptions that are due. Takes no memory where none is.
 pub(crate) fn fire_timers(setting: &Setting, services: &mut Services) -> Result<Served, Halt>
     ensures serves { Serves result services.new (timers_met setting.now services.old) }
-    ensures none { is_some services.old.subs.halted ≡ false → is_any_due setting.now.clock services.old.subs.table.subscriptions ≡ false → IsOk result }
+    ensures none { is_some services.old.subscriptions.halted ≡ false → is_any_due setting.now.clock services.old.subscriptions.table.subscriptions ≡ false → IsOk result }
 {
     let items = &mut services.items;
-    let answered = services.subs.timers(items, setting.clock)?;
+    let answered = services.subscriptions.timers(items, setting.clock)?;
     Ok(served_alone(services.allocator(), answered))
 }

@@ -10,6 +10,6 @@ returns c =
     let setting = c.args.setting.now in
     let caller = c.args.caller.now in
     let request = c.args.request in
-    called_first state caller (create_subscription_body setting caller) (created c.args.session (settings_asked request) request.publishing_enabled state.subs state.items setting.clock)
+    called_first state caller (create_subscription_body setting caller) (created c.args.session (settings_asked request) request.publishing_enabled state.subscriptions state.items setting.clock)
     c.in_ok-answered.answered c.create.new.self c.create.new.items c.apart-answer.result.1 c.in_ok-body.body c.in_ok-reply_first.field-0
     c.in_ok-answered.ensures c.apart-answer.ensures.others (c.in_ok-body.ensures ∙ ap (create_subscription_body setting caller) c.apart-answer.ensures.answer) c.in_ok-reply_first.ensures

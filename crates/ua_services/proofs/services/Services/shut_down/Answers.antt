@@ -5,7 +5,7 @@ use Rattle.ua_subscriptions.specs.Ending.{shut_down}
 use Rattle.ua_services.specs.Services.{shutting_of}
 use Rattle.ua_services.specs.Serving.{Given, given}
 use Rattle.ua_services.specs.SessionServing.{with_sessions}
-use Rattle.ua_services.specs.SubServing.{called_alone, with_subs, stage_at}
+use Rattle.ua_services.specs.SubServing.{called_alone, with_subscriptions, stage_at}
 use Rattle.ua_services.proofs.SubLemmas.{told_gives, shutting_halts}
 use Rattle.ua_services.proofs.services.Services.shut_down.Goals as goal
 
@@ -16,7 +16,7 @@ returns c =
     let subs = c.shut_down.new.self in
     let items = c.shut_down.new.items in
     let stage = shut_down (stage_at c.args.setting.now state) in
-    ap (λ sessions. given (with_sessions (with_subs state subs items) sessions) c.served_alone.result) c.end_all.ensures
+    ap (λ sessions. given (with_sessions (with_subscriptions state subs items) sessions) c.served_alone.result) c.end_all.ensures
     ∙ ap (λ (g : Given). let ended : Given = record g { state = with_sessions g.state (all_ended state.sessions) } in ended)
     (told_gives state stage c.in_ok-answered.answered subs items c.served_alone.result c.in_ok-answered.ensures.serves c.served_alone.ensures)
 

@@ -3,7 +3,7 @@ use Rattle.ua_subscriptions.specs.SubscriptionCalls.{said}
 use Rattle.ua_views.specs.Views.{or_none}
 use Rattle.ua_services.specs.Serving.{given, given_of}
 use Rattle.ua_services.specs.StatusResults.{statuses_body}
-use Rattle.ua_services.specs.SubServing.{with_subs, stage_at}
+use Rattle.ua_services.specs.SubServing.{with_subscriptions, stage_at}
 use Rattle.ua_services.proofs.SubLemmas.{named_length}
 use Rattle.ua_subscriptions.specs.Named.{named_all}
 use Rattle.ua_subscriptions.specs.declared.call.Call.TheVariants.{SetMode}
@@ -25,8 +25,8 @@ returns c =
     let setting = c.args.setting.now in
     let caller = c.args.caller.now in
     let inside = c.request.inside in
-    subst (λ q. given (with_subs state c.set_mode.new.self c.set_mode.new.items) c.in_ok-reply_first.field-0 ≡ given_of (set_publishing_mode_meaning setting caller c.args.session q state)) c.request.view_is
-    (subst (λ r. given (with_subs state c.set_mode.new.self c.set_mode.new.items) c.in_ok-reply_first.field-0 ≡ given_of (set_publishing_listed setting caller c.args.session inside.publishing_enabled state r)) c.in_ok-numbers.ensures.entries
-    (called_first state caller (statuses_body SET_PUBLISHING_MODE_RESPONSE setting caller) (said state.subs (named_all c.args.session (SetMode inside.publishing_enabled) (stage_at setting state) (or_none c.in_ok-numbers.numbers)))
+    subst (λ q. given (with_subscriptions state c.set_mode.new.self c.set_mode.new.items) c.in_ok-reply_first.field-0 ≡ given_of (set_publishing_mode_meaning setting caller c.args.session q state)) c.request.view_is
+    (subst (λ r. given (with_subscriptions state c.set_mode.new.self c.set_mode.new.items) c.in_ok-reply_first.field-0 ≡ given_of (set_publishing_listed setting caller c.args.session inside.publishing_enabled state r)) c.in_ok-numbers.ensures.entries
+    (called_first state caller (statuses_body SET_PUBLISHING_MODE_RESPONSE setting caller) (said state.subscriptions (named_all c.args.session (SetMode inside.publishing_enabled) (stage_at setting state) (or_none c.in_ok-numbers.numbers)))
     c.in_ok-answered.answered c.set_mode.new.self c.set_mode.new.items c.apart-statuses.result.1 c.in_ok-body.body c.in_ok-reply_first.field-0
     c.in_ok-answered.ensures c.apart-statuses.ensures.others (c.in_ok-body.ensures ∙ ap (statuses_body SET_PUBLISHING_MODE_RESPONSE setting caller) (c.as_slice.ensures ∙ c.apart-statuses.ensures.answer)) c.in_ok-reply_first.ensures))
