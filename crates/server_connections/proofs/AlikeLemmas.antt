@@ -8,13 +8,12 @@ use Rattle.ua_transport.specs.declared.frame.FrameFault.{FrameFault}
 use Rattle.server_messages.specs.declared.reply.Reply.{Reply}
 use Rattle.server_messages.specs.declared.setting.Setting.{Setting}
 use Rattle.server_connections.specs.Apart.{SeesAlike, is_on, is_for}
-use Rattle.server_connections.specs.Connecting.{Taking, reacted, taking_by, taking_of, break_by, break_of}
+use Rattle.server_connections.specs.Connecting.{Connections, Taking, reacted, taking_by, taking_of, break_by, break_of}
 use Rattle.server_connections.specs.Delivering.{Delivery, reply_sent, said_by, delivered_to, delivered, delivery_of}
 use Rattle.server_connections.specs.Reactions.{Counted, counted, sends, reaction_of, fault_reaction}
 use Rattle.server_connections.specs.declared.connection.Connection.{Connection}
 use Rattle.server_connections.specs.declared.connection.Phase.{Phase}
 use Rattle.server_connections.specs.declared.connection.Phase.TheVariants.{Greeting, Talking, Closed}
-use Rattle.server_connections.specs.declared.connections.Connections.{Connections}
 use Rattle.server_messages.specs.declared.out.Out.TheVariants.{Send}
 
 -- ---- frames

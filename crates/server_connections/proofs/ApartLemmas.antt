@@ -16,9 +16,8 @@ use Rattle.server_messages.specs.declared.setting.Setting.{Setting}
 use Rattle.server_connections.specs.declared.connection.Connection.{Connection}
 use Rattle.server_connections.specs.declared.connection.Phase.{Phase}
 use Rattle.server_connections.specs.declared.connection.Phase.TheVariants.{Greeting, Talking, Closed}
-use Rattle.server_connections.specs.declared.connections.Connections.{Connections}
 use Rattle.server_connections.specs.Reactions.{Counted, Sent, sent_nothing, sent_or, fault_reaction, reaction_of}
-use Rattle.server_connections.specs.Connecting.{reacted, taking_by, taking_of, break_by, break_of}
+use Rattle.server_connections.specs.Connecting.{Connections, reacted, taking_by, taking_of, break_by, break_of}
 use Rattle.server_connections.specs.Delivering.{said_by, too_large_sent, reply_sent, delivered_to, delivered, delivery_of}
 use Rattle.server_connections.specs.Apart.{unsent_channel, unsent_phase, unsent, with_known, KeepsOthers}
 use Rattle.server_connections.proofs.CoherentLemmas.{at_insert_at}

@@ -28,10 +28,9 @@ use Rattle.server_connections.specs.declared.frame_outcome.FrameOutcome.TheVaria
 use Rattle.server_connections.specs.declared.connection.Connection.{Connection}
 use Rattle.server_connections.specs.declared.connection.Phase.{Phase}
 use Rattle.server_connections.specs.declared.connection.Phase.TheVariants.{Greeting, Talking, Closed}
-use Rattle.server_connections.specs.declared.connections.Connections.{Connections}
 use Rattle.server_messages.specs.declared.out.Out.{Out}
 use Rattle.server_connections.specs.Reactions.{Reaction, reaction, Counted, greeted, first_reaction, granted, opening_reaction, taken_reaction, later_reaction, reaction_of, fault_reaction}
-use Rattle.server_connections.specs.Connecting.{Taking, is_known, is_new, is_above_all, known_as, gone, with_phase, reacted, taking_by, taking_of, break_by, break_of}
+use Rattle.server_connections.specs.Connecting.{Connections, Taking, is_known, is_new, is_above_all, known_as, gone, with_phase, reacted, taking_by, taking_of, break_by, break_of}
 use Rattle.server_connections.specs.Delivering.{Delivery, said_by, reply_sent, delivered_on, delivered_to, delivered, delivery_of}
 use Rattle.server_connections.specs.Coherent.{IsAgreed, IsAgreedIn, IsAgreedAt, AreAgreed, is_talking, has_channel, Talks, IsFresh, is_going_on, is_open_at, is_open}
 use Rattle.server_connections.proofs.AgreedLemmas.{of_unchanged, of_taken, good_frame, IsGood, reply_unchanged, granted_unchanged}

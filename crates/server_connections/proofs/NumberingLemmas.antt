@@ -32,12 +32,11 @@ use Rattle.server_messages.specs.declared.origin.Origin.{Origin}
 use Rattle.server_messages.specs.declared.setting.Setting.{Setting}
 use Rattle.server_connections.specs.Apart.{unsent_phase, unsent}
 use Rattle.server_connections.specs.Coherent.{number_in, number_at, AreNumbered}
-use Rattle.server_connections.specs.Connecting.{known_as, gone, reacted, taking_by, taking_of, break_by, break_of}
+use Rattle.server_connections.specs.Connecting.{Connections, known_as, gone, reacted, taking_by, taking_of, break_by, break_of}
 use Rattle.server_connections.specs.Reactions.{Reaction, Counted, counted, Sent, sent_nothing, sent_or, greeted, first_reaction, opening_body, opening_sent, granted, opening_reaction, taken_reaction, later_reaction, reaction_of, fault_reaction}
 use Rattle.server_connections.specs.declared.connection.Connection.{Connection}
 use Rattle.server_connections.specs.declared.connection.Phase.{Phase}
 use Rattle.server_connections.specs.declared.connection.Phase.TheVariants.{Greeting, Talking, Closed}
-use Rattle.server_connections.specs.declared.connections.Connections.{Connections}
 use Rattle.server_connections.proofs.AgreedLemmas.{take_number}
 use Rattle.server_connections.proofs.ApartLemmas.{SendsAlone}
 use Rattle.server_connections.proofs.CoherentLemmas.{at_insert_at, at_removed}

@@ -8,12 +8,11 @@ use Rattle.std.specs.Cmp.{nat_cmp_total}
 use Rattle.collections.proofs.NumberMaps.{same_number, insert_same}
 use Rattle.ua_types.specs.Configuration.{Configuration}
 use Rattle.server_connections.specs.Coherent.{IsAgreedAt, AreAgreed, IsFresh, AreNumbered, number_at, is_going_on, is_open_at, is_open, AreAllClosed}
-use Rattle.server_connections.specs.Connecting.{is_new, refusing}
+use Rattle.server_connections.specs.Connecting.{Connections, is_new, refusing}
 use Rattle.server_connections.specs.Shutting.{shut_by, shut_on, shut_at, shut_one, and_refusing, all_shut, shut, ended}
 use Rattle.server_connections.specs.declared.connection.Connection.{Connection}
 use Rattle.server_connections.specs.declared.connection.Phase.{Phase}
 use Rattle.server_connections.specs.declared.connection.Phase.TheVariants.{Greeting, Talking, Closed}
-use Rattle.server_connections.specs.declared.connections.Connections.{Connections}
 
 -- ---- where none is open, nothing is done
 

@@ -6,10 +6,9 @@ use Rattle.server_messages.specs.declared.reply.Reply.{Reply}
 use Rattle.server_connections.specs.declared.connection.Connection.{Connection}
 use Rattle.server_connections.specs.declared.connection.Phase.{Phase}
 use Rattle.server_connections.specs.declared.connection.Phase.TheVariants.{Talking}
-use Rattle.server_connections.specs.declared.connections.Connections.{Connections}
 use Rattle.server_messages.specs.declared.out.Out.{Out}
 use Rattle.server_messages.specs.declared.out.Out.TheVariants.{Send, Close}
-use Rattle.server_connections.specs.Connecting.{is_known}
+use Rattle.server_connections.specs.Connecting.{Connections, is_known}
 
 -- a channel but for what was sent by it: the number of the last chunk
 abbrev pub unsent_channel : ChannelState → ChannelState

@@ -14,8 +14,7 @@ use Rattle.ua_transport.specs.Messages.{AreWithinLimits}
 use Rattle.server_connections.specs.declared.connection.Connection.{Connection}
 use Rattle.server_connections.specs.declared.connection.Phase.{Phase}
 use Rattle.server_connections.specs.declared.connection.Phase.TheVariants.{Talking, Closed}
-use Rattle.server_connections.specs.Connecting.{is_known, is_new}
-use Rattle.server_connections.specs.declared.connections.Connections.{Connections}
+use Rattle.server_connections.specs.Connecting.{Connections, is_known, is_new}
 
 -- a channel is agreed on under the server's limits, and what came of a message is within them
 pub record IsAgreed (config : Configuration) (s : ChannelState) : Type 0 where

@@ -1,6 +1,8 @@
 -- What frames and closings do to the connections.
-use Rattle.std.specs.Prelude.{ℕ, Bool, true, nat_lt, List, [], ◌++◌, Option, Some, None, is_some}
-use Rattle.std.specs.FinMap.{get, insert, remove, empty}
+use Rattle.std.specs.Prelude.{ℕ, Bool, true, nat_lt, List, [], ◌++◌, Option, Some, None, is_some, refl}
+use Rattle.std.specs.Coded.{Coded, code_by, coded×, coded_ℕ, coded_option}
+use Rattle.std.specs.FinMap.{FinMap, get, insert, remove, empty, code}
+use Rattle.std.specs.Ordering.{nat_cmp}
 use Rattle.ua_types.specs.declared.status.Status.{Status}
 use Rattle.ua_transport.specs.declared.frame.Frame.{Frame}
 use Rattle.ua_transport.specs.declared.frame.FrameFault.{FrameFault}
@@ -12,7 +14,22 @@ use Rattle.server_connections.specs.declared.connection.Phase.{Phase}
 use Rattle.server_connections.specs.declared.connection.Phase.TheVariants.{Greeting, Closed}
 use Rattle.server_messages.specs.declared.out.Out.{Out}
 use Rattle.server_connections.specs.Reactions.{Counted, counted, refusal, reaction_of, fault_reaction}
-pub use Rattle.server_connections.specs.declared.connections.Connections.{Connections}
+
+-- the connections that aren't gone, under their numbers; the greatest number of one that was opened so far; and the number of the
+-- channel that was opened last, 0 before the first
+pub record Connections : Type 0 where
+  pub known : FinMap nat_cmp Connection
+  pub greatest : Option ℕ
+  pub channels : ℕ
+
+-- how they are stored, given how one is
+abbrev pub connections_code : Coded Connection → Coded Connections
+connections_code connection =
+    code_by (FinMap nat_cmp Connection × (Option ℕ × ℕ))
+    (coded× (code coded_ℕ connection) (coded× (coded_option coded_ℕ) coded_ℕ))
+    (λ c. (c.known, (c.greatest, c.channels)))
+    (λ p. record { known = p.0; greatest = p.1.0; channels = p.1.1 })
+    (λ _. refl)
 
 abbrev pub no_connections : Connections
 no_connections = record { known = empty; greatest = None; channels = 0 }

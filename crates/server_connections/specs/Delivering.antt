@@ -12,10 +12,9 @@ use Rattle.server_messages.specs.declared.setting.Setting.{Setting}
 use Rattle.server_connections.specs.declared.connection.Connection.{Connection}
 use Rattle.server_connections.specs.declared.connection.Phase.{Phase}
 use Rattle.server_connections.specs.declared.connection.Phase.TheVariants.{Talking}
-use Rattle.server_connections.specs.declared.connections.Connections.{Connections}
 use Rattle.server_messages.specs.declared.out.Out.{Out}
 use Rattle.server_connections.specs.Reactions.{Sent, sent_nothing, sent_or, sends}
-use Rattle.server_connections.specs.Connecting.{with_phase}
+use Rattle.server_connections.specs.Connecting.{Connections, with_phase}
 
 -- a fault in the place of a reply that is too large for the client
 unfoldable pub too_large_sent : ChannelState → Origin → Moment → Sent

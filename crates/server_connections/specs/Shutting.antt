@@ -3,13 +3,12 @@ use Rattle.std.specs.Prelude.{ℕ, List, [], ◌∷◌, ◌++◌, Option, Some, 
 use Rattle.std.specs.FinMap.{get, entries}
 use Rattle.std.specs.Map.{keys_of}
 use Rattle.ua_types.specs.declared.status.TheConstants.Status as status
-use Rattle.server_connections.specs.Connecting.{with_phase, Refusing, refusing}
+use Rattle.server_connections.specs.Connecting.{Connections, with_phase, Refusing, refusing}
 use Rattle.server_connections.specs.Delivering.{Said, said}
 use Rattle.server_connections.specs.Reactions.{refusal}
 use Rattle.server_connections.specs.declared.connection.Connection.{Connection}
 use Rattle.server_connections.specs.declared.connection.Phase.{Phase}
 use Rattle.server_connections.specs.declared.connection.Phase.TheVariants.{Closed}
-use Rattle.server_connections.specs.declared.connections.Connections.{Connections}
 use Rattle.server_messages.specs.declared.out.Out.{Out}
 
 -- an open connection is told that the server shuts down, and is closed; one that is closed is left as it is

@@ -10,12 +10,13 @@ ghost use Rattle.server_connections.specs.Shutting.{shut_one, shut, ended, refus
 
 use crate::connection::{Connection, Phase};
 use crate::frame_outcome::FrameOutcome;
-use crate::reactions::{Sender, break_off, frame_reaction, put_refusal};
+use crate::reactions::{Answering, Received, break_off, frame_reaction, put_refusal};
 use crate::sending::say;
 use crate::shutting::close_open;
 use collections::{Numbered, ShortList};
 use server_messages::{Out, Reply, Setting};
 use std::alloc::{AllocError, Global};
+use std::marker::Model;
 use ua_transport::{Frame, FrameFault};
 use ua_types::Status;
 
@@ -26,12 +27,24 @@ use ua_types::Status;
 /// what is left.
 #[derive(Debug, Drop)]
 pub struct Connections {
-    /// The connections that aren't gone.
-    pub known: Numbered<Connection>,
-    /// The greatest number of a connection that was opened so far.
-    pub greatest: Option<u64>,
-    /// The number of the secure channel that was opened last, 0 before the first.
-    pub channels: u32,
+    // The connections that aren't gone.
+    known: Numbered<Connection>,
+    // The greatest number of a connection that was opened so far.
+    greatest: Option<u64>,
+    // The number of the secure channel that was opened last, 0 before the first.
+    channels: u32,
+    alloc: Global,
+}
+
+impl Model for Connections {
+    ghost use Rattle.server_connections.specs.contracts.connection.Connection as connection_row;
+    ghost use Rattle.server_connections.specs.Connecting as connecting;
+
+    ghost Value = { connecting.Connections };
+
+    ghost coded = { connecting.connections_code connection_row.the_row.coded };
+
+    ghost view = { λ c. record { known = c.known; greatest = c.greatest; channels = c.channels } };
 }
 
 impl Connections {
@@ -43,6 +56,7 @@ impl Connections {
             known: Numbered::new(alloc),
             greatest: None,
             channels: 0,
+            alloc,
         }
     }
 
@@ -80,7 +94,6 @@ impl Connections {
     /// Knows a connection that is closed at once, and tells it why.
     pub fn turn_away(
         &mut self,
-        alloc: Global,
         conn: u64,
         key: &[u8; 32],
         status: Status,
@@ -89,24 +102,19 @@ impl Connections {
         ensures connections { OnOk result (self.new ≡ (turned_away self.old conn key.now status).connections) }
         ensures outs { OnOk result (outs.new ≡ outs.old ++ (turned_away self.old conn key.now status).outs) }
     {
-        put_refusal(alloc, conn, status, outs)?;
+        put_refusal(self.alloc, conn, status, outs)?;
         self.know(conn, key, Phase::Closed)
     }
 
     // Closes a connection that is open, as the server shuts down.
     #[tactic(auto, unfolding(crate::specs::Shutting::shut_one))]
-    fn shut_one(
-        &mut self,
-        alloc: Global,
-        conn: u64,
-        outs: &mut ShortList<Out>,
-    ) -> Result<(), AllocError>
+    fn shut_one(&mut self, conn: u64, outs: &mut ShortList<Out>) -> Result<(), AllocError>
         ensures { OnOk result (refusing self.new outs.new ≡ refusing_after outs.old (shut_one self.old conn)) }
     {
         let Some(connection) = self.known.get_mut(conn) else {
             return Ok(());
         };
-        close_open(alloc, conn, &mut connection.phase, outs)
+        close_open(self.alloc, conn, &mut connection.phase, outs)
     }
 
     // Whether the connection is open: known, and not closed.
@@ -134,28 +142,20 @@ impl Connections {
         false
     }
 
-    // Closes all connections that are open, by rising number. Takes no memory where none is open.
-    fn shut_each(&mut self, alloc: Global, outs: &mut ShortList<Out>) -> Result<(), AllocError>
+    /// Closes all connections that are open, by rising number, as the server shuts down: each is told
+    /// `BAD_SHUTDOWN`. They stay known until they are gone. Takes no memory where none is open, also if closed ones aren't gone yet.
+    pub fn shut(&mut self, outs: &mut ShortList<Out>) -> Result<(), AllocError>
         ensures shut { OnOk result (refusing self.new outs.new ≡ refusing_after outs.old (shut self.old)) }
+        ensures ended { OnOk result ((conn : ℕ) → get self.new.known conn ≡ ended (get self.old.known conn)) }
         ensures none { AreAllClosed self.old → IsOk result }
     {
         if !self.has_open() {
             return Ok(());
         }
-        for conn in self.known.numbers(alloc)? {
-            self.shut_one(alloc, conn, outs)?;
+        for conn in self.known.numbers(self.alloc)? {
+            self.shut_one(conn, outs)?;
         }
         Ok(())
-    }
-
-    /// Closes all connections that are open, by rising number, as the server shuts down: each is told
-    /// `BAD_SHUTDOWN`. They stay known until they are gone. Takes no memory where none is open, also if closed ones aren't gone yet.
-    pub fn shut(&mut self, alloc: Global, outs: &mut ShortList<Out>) -> Result<(), AllocError>
-        ensures shut { OnOk result (refusing self.new outs.new ≡ refusing_after outs.old (shut self.old)) }
-        ensures ended { OnOk result ((conn : ℕ) → get self.new.known conn ≡ ended (get self.old.known conn)) }
-        ensures none { AreAllClosed self.old → IsOk result }
-    {
-        self.shut_each(alloc, outs)
     }
 
     /// Forgets a connection that is no more. Takes no memory.
@@ -169,7 +169,6 @@ impl Connections {
     #[tactic(auto, unfolding(crate::specs::Connecting::taking_of))]
     pub fn take(
         &mut self,
-        alloc: Global,
         setting: &Setting,
         conn: u64,
         frame: &Frame,
@@ -183,12 +182,13 @@ impl Connections {
         };
         let key = connection.key;
         frame_reaction(
-            alloc,
-            setting,
+            Answering {
+                alloc: self.alloc,
+                setting,
+            },
             &mut self.channels,
-            Sender { conn, key },
+            Received { conn, key, frame },
             &mut connection.phase,
-            frame,
             outs,
         )
     }
@@ -197,7 +197,6 @@ impl Connections {
     #[tactic(auto, unfolding(crate::specs::Connecting::break_of))]
     pub fn break_off(
         &mut self,
-        alloc: Global,
         conn: u64,
         fault: FrameFault,
         outs: &mut ShortList<Out>,
@@ -208,7 +207,7 @@ impl Connections {
         let Some(connection) = self.known.get_mut(conn) else {
             return Ok(());
         };
-        break_off(alloc, conn, fault, &mut connection.phase, outs)?;
+        break_off(self.alloc, conn, fault, &mut connection.phase, outs)?;
         Ok(())
     }
 
@@ -216,7 +215,6 @@ impl Connections {
     #[tactic(auto, unfolding(crate::specs::Delivering::delivered))]
     fn deliver_one(
         &mut self,
-        alloc: Global,
         setting: &Setting,
         reply: Reply,
         outs: &mut ShortList<Out>,
@@ -227,13 +225,16 @@ impl Connections {
         let Some(connection) = self.known.get_mut(reply.origin.conn) else {
             return Ok(());
         };
-        say(alloc, setting, &mut connection.phase, reply, outs)
+        let answering = Answering {
+            alloc: self.alloc,
+            setting,
+        };
+        say(answering, &mut connection.phase, reply, outs)
     }
 
     /// Sends replies, each on the connection that its request came by.
     pub fn deliver(
         &mut self,
-        alloc: Global,
         setting: &Setting,
         replies: ShortList<Reply>,
         outs: &mut ShortList<Out>,
@@ -243,7 +244,7 @@ impl Connections {
         ensures none { replies ≡ [] → IsOk result }
     {
         for reply in replies {
-            self.deliver_one(alloc, setting, reply, outs)?;
+            self.deliver_one(setting, reply, outs)?;
         }
         Ok(())
     }

@@ -15,6 +15,26 @@ use ua_transport::{
 };
 use ua_types::{ByteString, Refusal, Status};
 
+/// What every answer is made with.
+#[derive(Clone, Copy, Debug)]
+pub(crate) struct Answering<'a> {
+    /// From where memory is taken.
+    pub alloc: Global,
+    /// What the server was told about itself, with its clock.
+    pub setting: &'a Setting,
+}
+
+/// A frame and the connection that it came on.
+#[derive(Clone, Copy, Debug)]
+pub(crate) struct Received<'a> {
+    /// The number of the connection.
+    pub conn: u64,
+    /// The random bytes with which the connection was opened.
+    pub key: [u8; 32],
+    /// The frame itself.
+    pub frame: &'a Frame,
+}
+
 // The connection is to be closed.
 fn close(conn: u64, outs: &mut ShortList<Out>) -> Result<FrameOutcome, AllocError>
     ensures { IfOk result (λ asked. reaction Phase.Closed outs.new asked ≡ reaction_after outs.old (closed conn)) }
@@ -74,16 +94,20 @@ fn acknowledge(
 // The first frame of a connection, which makes its channel where it isn't to be closed.
 #[tactic(auto, unfolding(crate::specs::Reactions::first_reaction))]
 fn take_first_frame(
-    alloc: Global,
-    setting: &Setting,
-    conn: u64,
+    answering: Answering<'_>,
+    received: Received<'_>,
     phase: &mut Phase,
-    frame: &Frame,
     outs: &mut ShortList<Out>,
 ) -> Result<FrameOutcome, AllocError>
     ensures { IfOk result (λ asked. reaction (left_by asked phase.new) outs.new asked
-        ≡ reaction_after outs.old (first_reaction setting.now conn frame.now)) }
+        ≡ reaction_after outs.old (first_reaction answering.entry.setting.now received.entry.conn received.entry.frame.now)) }
 {
+    let Answering { alloc, setting } = answering;
+    let Received {
+        conn,
+        key: _,
+        frame,
+    } = received;
     if frame.message_type == MessageType::Error {
         return close(conn, outs);
     }
@@ -113,14 +137,14 @@ pub(crate) fn send_all(
 
 #[tactic(auto, unfolding(crate::specs::Reactions::opening_body))]
 fn opening_response(
-    alloc: Global,
-    setting: &Setting,
+    answering: Answering<'_>,
     handle: u32,
     channel_id: u32,
     token_id: u32,
 ) -> Result<MessageBody, AllocError>
-    ensures { IfOk result (λ body. body ≡ opening_body setting.now handle channel_id token_id) }
+    ensures { IfOk result (λ body. body ≡ opening_body answering.entry.setting.now handle channel_id token_id) }
 {
+    let Answering { alloc, setting } = answering;
     let response = OpenSecureChannelResponse {
         response_header: ResponseHeader::good(handle, setting.clock),
         server_protocol_version: 0,
@@ -136,19 +160,18 @@ fn opening_response(
 // Grants a token of the channel with this number, and gives the chunk that says so.
 #[tactic(auto, unfolding(crate::specs::Reactions::granted, crate::specs::Reactions::opening_sent))]
 fn grant(
-    alloc: Global,
-    setting: &Setting,
+    answering: Answering<'_>,
     channel: &mut Channel,
     origin: Origin,
     number: u32,
 ) -> Result<ShortList<Bytes>, AllocError>
-    ensures { IfOk result (λ chunks. record { frames = chunks; channel = channel.new } ≡ granted setting.now channel.old origin number) }
+    ensures { IfOk result (λ chunks. record { frames = chunks; channel = channel.new } ≡ granted answering.entry.setting.now channel.old origin number) }
 {
     let token_id = channel.grant(number);
-    let body = opening_response(alloc, setting, origin.handle, number, token_id)?;
-    match channel.send_opening(alloc, origin.id, body.as_slice()) {
+    let body = opening_response(answering, origin.handle, number, token_id)?;
+    match channel.send_opening(answering.alloc, origin.id, body.as_slice()) {
         Ok(chunks) => Ok(chunks),
-        Err(SendFault::TooLarge) => Ok(ShortList::new(alloc)),
+        Err(SendFault::TooLarge) => Ok(ShortList::new(answering.alloc)),
         Err(SendFault::Memory) => Err(AllocError),
     }
 }
@@ -164,22 +187,21 @@ struct Opening {
 // Opens the channel, or renews its token.
 #[tactic(auto, unfolding(crate::specs::Reactions::opening_reaction))]
 fn open(
-    alloc: Global,
-    setting: &Setting,
+    answering: Answering<'_>,
     channels: &mut u32,
     channel: &mut Channel,
     opening: Opening,
     outs: &mut ShortList<Out>,
 ) -> Result<FrameOutcome, AllocError>
     ensures { IfOk result (λ asked. counted channels.new (reaction (left_by asked (Phase.Talking channel.new)) outs.new asked)
-        ≡ counted_after outs.old (opening_reaction setting.now channels.old channel.old opening.origin opening.renew)) }
+        ≡ counted_after outs.old (opening_reaction answering.entry.setting.now channels.old channel.old opening.origin opening.renew)) }
 {
     let Opening { origin, renew } = opening;
     let number = if renew {
         channel.number().unwrap_or(0)
     } else if *channels == u32::MAX {
         return refuse(
-            alloc,
+            answering.alloc,
             origin.conn,
             Status::BAD_TCP_NOT_ENOUGH_RESOURCES,
             outs,
@@ -188,43 +210,32 @@ fn open(
         *channels += 1;
         *channels
     };
-    let chunks = grant(alloc, setting, channel, origin, number)?;
+    let chunks = grant(answering, channel, origin, number)?;
     send_all(origin.conn, chunks, outs)?;
     Ok(FrameOutcome::Nothing)
-}
-
-/// The connection that a frame came on.
-#[derive(Clone, Copy, Debug)]
-pub(crate) struct Sender {
-    /// Its number.
-    pub conn: u64,
-    /// The random bytes with which it was opened.
-    pub key: [u8; 32],
 }
 
 // A later frame of a connection.
 #[tactic(auto, unfolding(crate::specs::Reactions::later_reaction))]
 fn talk(
-    alloc: Global,
-    setting: &Setting,
+    answering: Answering<'_>,
     channels: &mut u32,
-    sender: Sender,
+    received: Received<'_>,
     channel: &mut Channel,
-    frame: &Frame,
     outs: &mut ShortList<Out>,
 ) -> Result<FrameOutcome, AllocError>
     ensures { IfOk result (λ asked. counted channels.new (reaction (left_by asked (Phase.Talking channel.new)) outs.new asked)
-        ≡ counted_after outs.old (later_reaction setting.now channels.old sender.conn sender.key frame.now channel.old)) }
+        ≡ counted_after outs.old (later_reaction answering.entry.setting.now channels.old received.entry.conn received.entry.key received.entry.frame.now channel.old)) }
 {
-    let Sender { conn, key } = sender;
-    match channel.take(alloc, frame) {
+    let Received { conn, key, frame } = received;
+    match channel.take(answering.alloc, frame) {
         Ok(Taken::Nothing) => Ok(FrameOutcome::Nothing),
         Ok(Taken::Aborted { id: _ }) => Ok(FrameOutcome::Nothing),
         Ok(Taken::Closed) => close(conn, outs),
         Ok(Taken::Opening { id, handle, renew }) => {
             let origin = Origin { conn, id, handle };
             let opening = Opening { origin, renew };
-            open(alloc, setting, channels, channel, opening, outs)
+            open(answering, channels, channel, opening, outs)
         }
         Ok(Taken::Request { id, body }) => Ok(FrameOutcome::Request(Request {
             conn,
@@ -232,7 +243,7 @@ fn talk(
             id,
             body,
         })),
-        Err(Refusal::Service(status)) => refuse(alloc, conn, status, outs),
+        Err(Refusal::Service(status)) => refuse(answering.alloc, conn, status, outs),
         Err(Refusal::Memory) => Err(AllocError),
         Err(Refusal::Exhausted) => unreachable!(),
     }
@@ -240,20 +251,18 @@ fn talk(
 
 /// A frame of a connection in this phase, which is changed in its place.
 pub(crate) fn frame_reaction(
-    alloc: Global,
-    setting: &Setting,
+    answering: Answering<'_>,
     channels: &mut u32,
-    sender: Sender,
+    received: Received<'_>,
     phase: &mut Phase,
-    frame: &Frame,
     outs: &mut ShortList<Out>,
 ) -> Result<FrameOutcome, AllocError>
     ensures { IfOk result (λ asked. counted channels.new (reaction phase.new outs.new asked)
-        ≡ counted_after outs.old (reaction_of setting.now channels.old sender.conn sender.key frame.now phase.old)) }
+        ≡ counted_after outs.old (reaction_of answering.entry.setting.now channels.old received.entry.conn received.entry.key received.entry.frame.now phase.old)) }
 {
     let asked = match phase {
-        Phase::Greeting => take_first_frame(alloc, setting, sender.conn, phase, frame, outs)?,
-        Phase::Talking(channel) => talk(alloc, setting, channels, sender, channel, frame, outs)?,
+        Phase::Greeting => take_first_frame(answering, received, phase, outs)?,
+        Phase::Talking(channel) => talk(answering, channels, received, channel, outs)?,
         Phase::Closed => FrameOutcome::Closed,
     };
     if matches!(&asked, FrameOutcome::Closed) {

@@ -4,10 +4,10 @@ ghost use Rattle.std.specs.Prelude.{◌≡◌, ◌++◌, IfOk, OnOk};
 ghost use Rattle.server_connections.specs.Delivering.{too_large_sent, reply_sent, said_by, said, said_after};
 
 use crate::connection::Phase;
-use crate::reactions::send_all;
+use crate::reactions::{Answering, send_all};
 use bytes::Bytes;
 use collections::ShortList;
-use server_messages::{Origin, Out, Reply, Setting};
+use server_messages::{Origin, Out, Reply};
 use std::alloc::{AllocError, Global};
 use ua_messages::fault;
 use ua_transport::{Channel, SendFault};
@@ -52,19 +52,18 @@ fn reply_chunks(
 
 /// Sends a reply on its connection, in this phase. Only one that talks has a channel to send it by.
 pub(crate) fn say(
-    alloc: Global,
-    setting: &Setting,
+    answering: Answering<'_>,
     phase: &mut Phase,
     reply: Reply,
     outs: &mut ShortList<Out>,
 ) -> Result<(), AllocError>
-    ensures { OnOk result (said phase.new outs.new ≡ said_after outs.old (said_by setting.now reply phase.old)) }
+    ensures { OnOk result (said phase.new outs.new ≡ said_after outs.old (said_by answering.entry.setting.now reply phase.old)) }
 {
     match phase {
         Phase::Greeting => Ok(()),
         Phase::Talking(channel) => {
             let conn = reply.origin.conn;
-            let chunks = reply_chunks(alloc, channel, reply, setting.clock)?;
+            let chunks = reply_chunks(answering.alloc, channel, reply, answering.setting.clock)?;
             send_all(conn, chunks, outs)
         }
         Phase::Closed => Ok(()),

@@ -11,11 +11,10 @@ use Rattle.collections.proofs.NumberMaps.{get_inserted, get_removed}
 use Rattle.server_messages.specs.declared.reply.Reply.{Reply}
 use Rattle.server_messages.specs.declared.setting.Setting.{Setting}
 use Rattle.server_connections.specs.Apart.{SeesAlike, is_on, is_for}
-use Rattle.server_connections.specs.Connecting.{Taking, taking_of}
+use Rattle.server_connections.specs.Connecting.{Connections, Taking, taking_of}
 use Rattle.server_connections.specs.Delivering.{delivery_of}
 use Rattle.server_connections.specs.declared.frame_outcome.FrameOutcome.{FrameOutcome}
 use Rattle.server_connections.specs.declared.frame_outcome.FrameOutcome.TheVariants as outcome
-use Rattle.server_connections.specs.declared.connections.Connections.{Connections}
 use Rattle.server_messages.specs.declared.out.Out.{Out}
 use Rattle.server_connections.proofs.AlikeLemmas.{TakesAlike, taking_alike, break_alike, delivery_alike, both_filtered}
 use Rattle.ua_services.specs.declared.services.Services.{Services}

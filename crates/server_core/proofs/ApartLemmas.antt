@@ -9,10 +9,9 @@ use Rattle.ua_transport.specs.declared.frame.Frame.{Frame}
 use Rattle.ua_transport.specs.declared.frame.FrameFault.{FrameFault}
 use Rattle.server_connections.specs.Apart as connections
 use Rattle.server_connections.specs.Apart.{unsent, with_known}
-use Rattle.server_connections.specs.Connecting.{is_known, taking_of, break_of}
+use Rattle.server_connections.specs.Connecting.{Connections, is_known, taking_of, break_of}
 use Rattle.server_connections.specs.declared.frame_outcome.FrameOutcome.{FrameOutcome}
 use Rattle.server_connections.specs.declared.frame_outcome.FrameOutcome.TheVariants as outcome
-use Rattle.server_connections.specs.declared.connections.Connections.{Connections}
 use Rattle.server_messages.specs.declared.out.Out.{Out}
 use Rattle.server_connections.proofs.ApartLemmas.{taking_apart, break_apart, delivery_apart, then_sent}
 use Rattle.collections.proofs.NumberMaps.{get_inserted_elsewhere, get_removed_elsewhere}

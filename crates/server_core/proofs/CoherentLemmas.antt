@@ -19,7 +19,7 @@ use Rattle.ua_transport.specs.declared.frame.FrameFault.{FrameFault}
 use Rattle.server_messages.specs.declared.reply.Reply.{Reply}
 use Rattle.server_messages.specs.declared.setting.Setting.{Setting}
 use Rattle.server_connections.specs.Coherent.{IsAgreedIn, IsAgreedAt, AreAgreed, Talks, IsFresh, AreNumbered, number_in, number_at, is_open_at, is_open}
-use Rattle.server_connections.specs.Connecting.{is_known, is_new, known_as, turned_away, taking_of, break_of, gone}
+use Rattle.server_connections.specs.Connecting.{Connections, is_known, is_new, known_as, turned_away, taking_of, break_of, gone}
 use Rattle.server_connections.specs.Delivering.{Delivery, delivery_of}
 use Rattle.server_connections.specs.Shutting.{shut}
 use Rattle.server_connections.specs.declared.frame_outcome.FrameOutcome.{FrameOutcome}
@@ -27,7 +27,6 @@ use Rattle.server_connections.specs.declared.frame_outcome.FrameOutcome.TheVaria
 use Rattle.server_connections.specs.declared.connection.Connection.{Connection}
 use Rattle.server_connections.specs.declared.connection.Phase.{Phase}
 use Rattle.server_connections.specs.declared.connection.Phase.TheVariants.{Greeting, Closed}
-use Rattle.server_connections.specs.declared.connections.Connections.{Connections}
 use Rattle.server_messages.specs.declared.out.Out.{Out}
 use Rattle.server_connections.proofs.CoherentLemmas.{FitsAt, IsDelivered, taken_right, broken_right, broken_closes, delivered_right, opened_agreed, opened_talks, opened_open, opened_fresh, gone_agreed, gone_talks, gone_open, gone_fresh, talks_open}
 use Rattle.collections.proofs.NumberMaps.{same_number, numbers_same}

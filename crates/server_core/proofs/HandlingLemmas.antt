@@ -18,11 +18,10 @@ use Rattle.ua_transport.proofs.PiecesLemmas.{at_end_by_fault}
 use Rattle.server_messages.specs.declared.reply.Reply.{Reply}
 use Rattle.server_messages.specs.declared.request.Request.{Request}
 use Rattle.server_messages.specs.declared.served.Served.{Served}
-use Rattle.server_connections.specs.Connecting.{Taking, taking, taking_after, taking_of}
+use Rattle.server_connections.specs.Connecting.{Connections, Taking, taking, taking_after, taking_of}
 use Rattle.server_connections.specs.Delivering.{sending, sending_after, Sending, delivery_of}
 use Rattle.server_connections.specs.declared.frame_outcome.FrameOutcome.{FrameOutcome}
 use Rattle.server_connections.specs.declared.frame_outcome.FrameOutcome.TheVariants as outcome
-use Rattle.server_connections.specs.declared.connections.Connections.{Connections}
 use Rattle.server_messages.specs.declared.out.Out.{Out}
 use Rattle.ua_services.specs.declared.services.Services.{Services}
 use Rattle.ua_services.specs.Serving.{Serving, Given, given, given_of}

@@ -29,18 +29,12 @@ pub struct Core {
 impl Core {
     // Does what a frame asks for, and says whether the connection goes on.
     #[tactic(auto, using(crate::proofs::EffectLemmas::after_doing, crate::proofs::EffectLemmas::spent_answered, crate::proofs::EffectLemmas::doing_spends_none), unfolding(crate::specs::Handling::handled))]
-    fn handle(
-        &mut self,
-        alloc: Global,
-        conn: u64,
-        frame: &Frame,
-        step: &mut Step,
-    ) -> Result<bool, Halt>
+    fn handle(&mut self, conn: u64, frame: &Frame, step: &mut Step) -> Result<bool, Halt>
         ensures { Handles result self.new step.old step.new (handled conn self.old frame.now) }
     {
         match self
             .connections
-            .take(alloc, &self.setting, conn, frame, &mut step.outs)?
+            .take(&self.setting, conn, frame, &mut step.outs)?
         {
             FrameOutcome::Nothing => Ok(true),
             FrameOutcome::Closed => {
@@ -55,7 +49,7 @@ impl Core {
                     stored,
                 } = served;
                 self.connections
-                    .deliver(alloc, &self.setting, replies, &mut step.outs)?;
+                    .deliver(&self.setting, replies, &mut step.outs)?;
                 step.add(rows, stored)?;
                 Ok(true)
             }
@@ -64,33 +58,20 @@ impl Core {
 
     // Closes a connection on which comes what can be no frame.
     #[tactic(auto, using(crate::proofs::EffectLemmas::after_doing, crate::proofs::EffectLemmas::doing_spends_none), unfolding(crate::specs::Handling::broken))]
-    fn break_off(
-        &mut self,
-        alloc: Global,
-        conn: u64,
-        fault: FrameFault,
-        step: &mut Step,
-    ) -> Result<(), AllocError>
+    fn break_off(&mut self, conn: u64, fault: FrameFault, step: &mut Step) -> Result<(), AllocError>
         ensures { OnOk result (Shows self.new step.old step.new false (broken conn self.old fault)) }
     {
-        self.connections
-            .break_off(alloc, conn, fault, &mut step.outs)?;
+        self.connections.break_off(conn, fault, &mut step.outs)?;
         self.services.forget(conn);
         Ok(())
     }
 
     // Handles frames up to one that closes the connection, and says whether it goes on.
-    fn handle_all(
-        &mut self,
-        alloc: Global,
-        conn: u64,
-        frames: &[Frame],
-        step: &mut Step,
-    ) -> Result<bool, Halt>
+    fn handle_all(&mut self, conn: u64, frames: &[Frame], step: &mut Step) -> Result<bool, Halt>
         ensures { Handles result self.new step.old step.new (all_handled (handled conn) self.old frames.now) }
     {
         for frame in frames {
-            match self.handle(alloc, conn, frame, step) {
+            match self.handle(conn, frame, step) {
                 Ok(true) => {}
                 Ok(false) => return Ok(false),
                 Err(halt) => return Err(halt),
@@ -100,23 +81,17 @@ impl Core {
     }
 
     /// Handles what a piece brought, and says whether the connection goes on.
-    pub fn finish(
-        &mut self,
-        alloc: Global,
-        conn: u64,
-        fed: &Fed,
-        step: &mut Step,
-    ) -> Result<bool, Halt>
+    pub fn finish(&mut self, conn: u64, fed: &Fed, step: &mut Step) -> Result<bool, Halt>
         ensures { Handles result self.new step.old step.new
             (and_then (all_handled (handled conn) self.old fed.now.frames) (refused_if (broken conn) fed.now.fault)) }
     {
-        if !self.handle_all(alloc, conn, fed.frames.as_slice(), step)? {
+        if !self.handle_all(conn, fed.frames.as_slice(), step)? {
             return Ok(false);
         }
         let Some(fault) = fed.fault else {
             return Ok(true);
         };
-        self.break_off(alloc, conn, fault, step)?;
+        self.break_off(conn, fault, step)?;
         Ok(false)
     }
 
@@ -143,7 +118,7 @@ impl Core {
             stored,
         } = served;
         self.connections
-            .deliver(alloc, &self.setting, replies, &mut step.outs)?;
+            .deliver(&self.setting, replies, &mut step.outs)?;
         step.rows = rows;
         step.stored = stored;
         Ok(step)
@@ -163,8 +138,8 @@ impl Core {
             stored,
         } = served;
         self.connections
-            .deliver(alloc, &self.setting, replies, &mut step.outs)?;
-        self.connections.shut(alloc, &mut step.outs)?;
+            .deliver(&self.setting, replies, &mut step.outs)?;
+        self.connections.shut(&mut step.outs)?;
         step.rows = rows;
         step.stored = stored;
         Ok(step)

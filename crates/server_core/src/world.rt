@@ -37,7 +37,7 @@ impl World {
             return Ok(step);
         };
         let fed = framer.feed(alloc, piece)?;
-        let goes_on = self.core.finish(alloc, conn, &fed, &mut step)?;
+        let goes_on = self.core.finish(conn, &fed, &mut step)?;
         if goes_on {
             return Ok(step);
         }
@@ -88,7 +88,7 @@ impl World {
             Some(status) => {
                 self.core
                     .connections
-                    .turn_away(alloc, conn, key, status, &mut step.outs)?;
+                    .turn_away(conn, key, status, &mut step.outs)?;
             }
         }
         Ok(step)

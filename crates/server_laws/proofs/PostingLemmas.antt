@@ -12,7 +12,7 @@ use Rattle.server_messages.specs.declared.out.Out.{Out}
 use Rattle.server_messages.specs.declared.reply.Reply.{Reply}
 use Rattle.server_messages.specs.declared.setting.Setting.{Setting}
 use Rattle.server_connections.specs.Delivering.{delivered, delivery_of}
-use Rattle.server_connections.specs.declared.connections.Connections.{Connections}
+use Rattle.server_connections.specs.Connecting.{Connections}
 use Rattle.subscription_laws.specs.Runs.{Move, Ran, start, moved}
 use Rattle.subscription_laws.proofs.TellingRuns.{all_are_told}
 use Rattle.ua_services.specs.Services.{serving_of, ticking_of, shutting_of, forgotten}

@@ -28,7 +28,7 @@ use Rattle.server_connections.specs.Reactions.{Sent, sent_nothing, sent_or, send
 use Rattle.server_connections.specs.declared.connection.Connection.{Connection}
 use Rattle.server_connections.specs.declared.connection.Phase.{Phase}
 use Rattle.server_connections.specs.declared.connection.Phase.TheVariants.{Greeting, Talking, Closed}
-use Rattle.server_connections.specs.declared.connections.Connections.{Connections}
+use Rattle.server_connections.specs.Connecting.{Connections}
 use Rattle.server_connections.proofs.CoherentLemmas.{delivered_right}
 use Rattle.server_connections.proofs.FittingLemmas.{fault_fits}
 use Rattle.ua_services.specs.Services.{serving_of, ticking_of, shutting_of}

@@ -16,11 +16,10 @@ use Rattle.ua_transport.specs.declared.frame.FrameFault.{FrameFault}
 use Rattle.server_messages.specs.declared.out.Out.{Out}
 use Rattle.server_messages.specs.declared.request.Request.{Request}
 use Rattle.server_connections.specs.Coherent.{AreAgreed}
-use Rattle.server_connections.specs.Connecting.{is_known, is_new, known_as, turned_away, taking_of, break_of, gone}
+use Rattle.server_connections.specs.Connecting.{Connections, is_known, is_new, known_as, turned_away, taking_of, break_of, gone}
 use Rattle.server_connections.specs.Delivering.{delivery_of}
 use Rattle.server_connections.specs.Shutting.{shut}
 use Rattle.server_connections.specs.declared.connection.Phase.TheVariants.{Greeting, Closed}
-use Rattle.server_connections.specs.declared.connections.Connections.{Connections}
 use Rattle.server_connections.specs.declared.frame_outcome.FrameOutcome.{FrameOutcome}
 use Rattle.server_connections.specs.declared.frame_outcome.FrameOutcome.TheVariants as outcome
 use Rattle.server_connections.proofs.CoherentLemmas.{taken_right, broken_right, opened_agreed, gone_agreed}

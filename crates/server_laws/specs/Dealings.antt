@@ -10,8 +10,7 @@ use Rattle.ua_transport.specs.Frames.{End, Rest, Broken}
 use Rattle.ua_transport.specs.Pieces.{all_handled}
 use Rattle.ua_transport.specs.declared.frame.Frame.{Frame}
 use Rattle.server_messages.specs.declared.request.Request.{Request}
-use Rattle.server_connections.specs.Connecting.{taking_of, break_of, gone}
-use Rattle.server_connections.specs.declared.connections.Connections.{Connections}
+use Rattle.server_connections.specs.Connecting.{Connections, taking_of, break_of, gone}
 use Rattle.server_connections.specs.declared.frame_outcome.FrameOutcome.{FrameOutcome}
 use Rattle.server_connections.specs.declared.frame_outcome.FrameOutcome.TheVariants as outcome
 use Rattle.server_core.specs.Handling.{setting_at, handled}

@@ -18,7 +18,7 @@ use Rattle.server_connections.specs.Reactions.{sends}
 use Rattle.server_connections.specs.declared.connection.Connection.{Connection}
 use Rattle.server_connections.specs.declared.connection.Phase.{Phase}
 use Rattle.server_connections.specs.declared.connection.Phase.TheVariants.{Talking}
-use Rattle.server_connections.specs.declared.connections.Connections.{Connections}
+use Rattle.server_connections.specs.Connecting.{Connections}
 use Rattle.ua_services.specs.Services.{serving_of, ticking_of, shutting_of}
 use Rattle.subscription_laws.specs.Tellings.{answer_of}
 use Rattle.server_core.specs.Coherent.{reached}

@@ -7,4 +7,4 @@ returns-clause-connections c =
     let connection = c.in-Some.connection.now in
     let there = lent_found c.get_mut.result _ c.in-Some.connection c.in-Some.is c.get_mut.ensures.found in
     let back = given_back _ c.get_mut.result c.in-Some.connection c.in-Some.is (c.get_mut.follows.holds (record connection { phase = c.break_off.new.phase })) in
-    broken_back c.args.self.now c.args.conn connection _ c.break_off.new.phase there back c.args.fault c.args.outs.now _ _ c.in_ok-break_off.ensures
+    broken_back _ c.args.self.now c.args.conn connection _ c.break_off.new.phase c.self.view_is there back c.args.fault c.args.outs.now _ _ c.in_ok-break_off.ensures

@@ -3,7 +3,7 @@ use Rattle.std.specs.FinMap.{entries}
 use Rattle.std.specs.Map.{keys_of}
 use Rattle.std.specs.Vec.Iter.{into_iter_items}
 use Rattle.server_connections.specs.Shutting.{all_shut, refusing_after}
-use Rattle.server_connections.proofs.connections.Connections.shut_each.Given as goal
+use Rattle.server_connections.proofs.connections.Connections.shut.Given as goal
 
 -- those that are closed so far and those that are left are the whole
 abbrev pub invariant-loop-conn : goal.invariant-loop-conn
