@@ -49,6 +49,7 @@ impl Model for CountedItems {
 }
 
 // The item with this number is changed, if there is one. Answers whether it had a value to send, and has one now.
+#[inline(always)]
 fn edit_at(items: &mut Slots<Item>, number: u32, edit: Edit) -> Option<Recount>
     requires { MayEdit edit (item_at number items.old) }
     ensures items { items.new ≡ with_item number (edited edit) items.old }
@@ -184,6 +185,7 @@ impl CountedItems {
     }
 
     /// The item with this number is changed, if there is one. Takes no memory.
+    #[inline(always)]
     pub fn edit(&mut self, number: u32, edit: Edit)
         requires { MayEdit edit (item_at number self.old) }
         ensures { self.new ≡ with_item number (edited edit) self.old }

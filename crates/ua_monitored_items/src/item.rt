@@ -274,7 +274,8 @@ impl Item {
         self.mode = mode;
     }
 
-    // Is changed so. Takes no memory.
+    // Is changed so. Takes no memory. Inlined, as the calls above it, so that no Edit is moved.
+    #[inline(always)]
     pub(crate) fn edit(&mut self, edit: Edit)
         requires { MayEdit edit (Some self.old) }
         ensures { self.new ≡ edited edit self.old }

@@ -238,6 +238,7 @@ impl ItemTable {
     }
 
     /// The item with this number is changed, if there is one. Takes no memory.
+    #[inline(always)]
     pub fn edit(&mut self, number: u32, edit: Edit)
         ensures { self.new ≡ record { made = self.old.made; items = with_item number (edited edit) self.old.items } }
     {
