@@ -3,6 +3,7 @@
 ghost use Rattle.std.specs.Prelude.{◌≡◌, IfOk, map, drop, string_bytes};
 ghost use Rattle.commands.specs.Commands.{RunsArguments};
 
+use crate::machine::Machine;
 use crate::program::{Ended, no_memory, run};
 use std::alloc::{AllocError, Global};
 use std::io::{Read, Write};
@@ -44,8 +45,7 @@ pub fn run_args<
     O: Write,
     E: Write,
 >(
-    rt: &R,
-    stores: &P,
+    machine: Machine<'_, R, P>,
     args: &[String],
     input: &mut Tap<I>,
     output: &mut Tap<O>,
@@ -54,8 +54,8 @@ pub fn run_args<
     ensures { RunsArguments I.remaining O.contents input.old input.new output.old output.new
         (map string_bytes (drop 1 args.now)) result }
 {
-    match words_after_name(rt.alloc(), args) {
-        Ok(words) => run(rt, stores, words.as_slice(), input, output, errors),
+    match words_after_name(machine.rt.alloc(), args) {
+        Ok(words) => run(machine, words.as_slice(), input, output, errors),
         Err(_) => Ended::by(no_memory(errors)),
     }
 }

@@ -11,7 +11,8 @@ ghost use Rattle.commands.specs.Commands.{counts_line as counts_line_spec};
 
 use crate::checking::check_at;
 use crate::exit_status::ExitStatus;
-use crate::scenarios::{asm_at, run_at};
+use crate::machine::Machine;
+use crate::scenarios::{Telling, asm_at, run_at};
 use crate::serving::serve_at;
 use crate::text_file::{FileFault, TextFile};
 use command_line::{Command, Stop, parse};
@@ -214,9 +215,10 @@ pub fn check<O: Write, E: Write>(
 }
 
 // A server whose one connection is open.
-fn opened_server(alloc: Global, config: Config, space: Space) -> Result<Server, StepFault>
-    ensures { IfOk result (λ server. world_of server ≡ opened (config, space)) }
+fn opened_server(alloc: Global, made: (Config, Space)) -> Result<Server, StepFault>
+    ensures { IfOk result (λ server. world_of server ≡ opened made) }
 {
+    let (config, space) = made;
     let mut server = Server::new(alloc, config, space)?;
     let opening = Event::Opened {
         conn: CONNECTION,
@@ -247,15 +249,14 @@ fn pumped<E: Write>(ran: Result<(), PumpFault>, errors: &mut E) -> ExitStatus
 /// `Halted` where memory ran out or the server halted.
 pub fn pipe<I: Read, O: Write, E: Write>(
     alloc: Global,
-    config: Config,
-    space: Space,
+    made: (Config, Space),
     input: &mut Tap<I>,
     output: &mut Tap<O>,
     errors: &mut E,
 ) -> ExitStatus
-    ensures { Pipes I.remaining O.contents input.old input.new output.old output.new (config, space) result }
+    ensures { Pipes I.remaining O.contents input.old input.new output.old output.new made result }
 {
-    let mut server = match opened_server(alloc, config, space) {
+    let mut server = match opened_server(alloc, made) {
         Ok(server) => server,
         Err(fault) => return step_fault(fault, errors),
     };
@@ -275,7 +276,7 @@ fn pipe_made<I: Read, O: Write, E: Write>(
         PipesMade I.remaining O.contents input.old input.new output.old output.new said result }
 {
     match made {
-        Ok((config, space)) => pipe(alloc, config, space, input, output, errors),
+        Ok(made) => pipe(alloc, made, input, output, errors),
         Err(status) => status,
     }
 }
@@ -309,7 +310,7 @@ fn pipe_with<R: Files + AllocGlobal, I: Read, O: Write, E: Write>(
 }
 
 /// Does what these words ask for: the words after the program's name. What is asked for goes to
-/// `output`, what went wrong to `errors`, each as a line. A store that they name is opened by `stores`.
+/// `output`, what went wrong to `errors`, each as a line. A store that they name is opened by the machine's `stores`.
 pub fn run<
     R: Files + AllocGlobal + Net + RandomSource + Clock + Wait,
     P: OpensStores,
@@ -317,8 +318,7 @@ pub fn run<
     O: Write,
     E: Write,
 >(
-    rt: &R,
-    stores: &P,
+    machine: Machine<'_, R, P>,
     words: &[&str],
     input: &mut Tap<I>,
     output: &mut Tap<O>,
@@ -326,17 +326,26 @@ pub fn run<
 ) -> Ended
     ensures { Runs I.remaining O.contents input.old input.new output.old output.new (map (λ w. w.now) words.now) result }
 {
+    let rt = machine.rt;
     match parse(rt.alloc(), words) {
         Ok(Command::Pipe { nodes }) => pipe_with(rt, nodes, input, output, errors),
         Ok(Command::Check { nodes, explain }) => check_at(rt, nodes, explain, output, errors),
         Ok(Command::Asm { scenario }) => asm_at(rt, scenario, output, errors),
         Ok(Command::Run { nodes, scenario }) => {
-            run_at(rt, Lines::Outs, nodes, scenario, output, errors)
+            let telling = Telling {
+                lines: Lines::Outs,
+                scenario,
+            };
+            run_at(rt, nodes, telling, output, errors)
         }
         Ok(Command::Trace { nodes, scenario }) => {
-            run_at(rt, Lines::Rows, nodes, scenario, output, errors)
+            let telling = Telling {
+                lines: Lines::Rows,
+                scenario,
+            };
+            run_at(rt, nodes, telling, output, errors)
         }
-        Ok(Command::Serve(options)) => serve_at(rt, stores, &options, output, errors),
+        Ok(Command::Serve(options)) => serve_at(machine, &options, output, errors),
         Err(Stop::Help(text)) => Ended::by(say(text.as_str(), output, errors)),
         Err(Stop::Usage(text)) => {
             let _ = write!(errors, "{text}");

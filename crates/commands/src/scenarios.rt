@@ -18,6 +18,16 @@ use stream_taps::Tap;
 use ua_space::Space;
 use ua_types::{Config, Listed};
 
+/// What is to be told of a server to which a scenario happens.
+#[derive(Clone, Copy)]
+pub(crate) struct Telling<'a> {
+    /// The lines that are to be printed.
+    pub(crate) lines: Lines,
+
+    /// The path of the scenario, or its text once that is read.
+    pub(crate) scenario: &'a str,
+}
+
 // The events of a scenario, or the status of why there are none.
 fn events_in<E: Write>(
     alloc: Global,
@@ -101,70 +111,62 @@ fn told<E: Write>(ran: Result<(), RunFault>, errors: &mut E) -> ExitStatus
     }
 }
 
-// Hands the events of a scenario to a server of this configuration and address space, and prints these lines of
-// what it does.
+// Hands the events of a scenario, of which the text is given, to a server of this configuration and address space, and
+// prints lines of what it does.
 fn run<O: Write, E: Write>(
     alloc: Global,
-    lines: Lines,
-    config: Config,
-    space: Space,
-    text: &str,
+    telling: Telling<'_>,
+    made: (Config, Space),
     output: &mut Tap<O>,
     errors: &mut E,
 ) -> ExitStatus
-    ensures { Tells lines (place O.contents output.old) (place O.contents output.new) (config, space) (events_of text.now) result }
+    ensures { Tells telling.entry.lines (place O.contents output.old) (place O.contents output.new) made (events_of telling.entry.scenario.now) result }
 {
-    match events_in(alloc, text, errors) {
+    match events_in(alloc, telling.scenario, errors) {
         Ok(events) => {
+            let (config, space) = made;
             let Ok(mut server) = Server::new(alloc, config, space) else {
                 return no_memory(errors);
             };
-            let ran = print_run(lines, &mut server, events.as_slice(), output);
+            let ran = print_run(telling.lines, &mut server, events.as_slice(), output);
             told(ran, errors)
         }
         Err(status) => status,
     }
 }
 
-// `run` of what was made, with the scenario at this path.
+// `run` of what was made, with the scenario at the path that `telling` has.
 fn run_with<R: Files + AllocGlobal, O: Write, E: Write>(
     rt: &R,
-    lines: Lines,
-    config: Config,
-    space: Space,
-    path: &str,
+    telling: Telling<'_>,
+    made: (Config, Space),
     output: &mut Tap<O>,
     errors: &mut E,
 ) -> (ExitStatus, Option<TextFile>)
-    ensures { TellsFile lines (place O.contents output.old) (place O.contents output.new) (config, space) path.now result.0 result.1 }
+    ensures { TellsFile telling.entry.lines (place O.contents output.old) (place O.contents output.new) made telling.entry.scenario.now result.0 result.1 }
 {
-    match read_file(rt, path, errors) {
+    match read_file(rt, telling.scenario, errors) {
         Ok(file) => {
-            let status = run(
-                rt.alloc(),
-                lines,
-                config,
-                space,
-                file.text(),
-                output,
-                errors,
-            );
+            let read = Telling {
+                lines: telling.lines,
+                scenario: file.text(),
+            };
+            let status = run(rt.alloc(), read, made, output, errors);
             (status, Some(file))
         }
         Err(status) => (status, None),
     }
 }
 
-/// These lines of the events of the scenario at a path, on a server of the node file at another.
+/// Tells what is to be told of the scenario at a path, on a server of the node file at another.
 pub(crate) fn run_at<R: Files + AllocGlobal, O: Write, E: Write>(
     rt: &R,
-    lines: Lines,
     nodes: &str,
-    scenario: &str,
+    telling: Telling<'_>,
     output: &mut Tap<O>,
     errors: &mut E,
 ) -> Ended
-    ensures { TellsFiles lines (place O.contents output.old) (place O.contents output.new) nodes.now scenario.now
+    ensures { TellsFiles telling.entry.lines (place O.contents output.old) (place O.contents output.new) nodes.now telling.entry.scenario.now
         result.status result.file result.scenario }
 {
     let file = match read_file(rt, nodes, errors) {
@@ -172,8 +174,8 @@ pub(crate) fn run_at<R: Files + AllocGlobal, O: Write, E: Write>(
         Err(status) => return Ended::by(status),
     };
     match nodes_in(rt.alloc(), file.text(), errors) {
-        Ok((config, space)) => {
-            let (status, told) = run_with(rt, lines, config, space, scenario, output, errors);
+        Ok(made) => {
+            let (status, told) = run_with(rt, telling, made, output, errors);
             Ended {
                 status,
                 file: Some(file),

@@ -14,6 +14,7 @@ ghost use Rattle.commands.specs.Serving.{idle_of as idle_of_spec, listening_line
 use crate::exit_status::ExitStatus;
 use crate::footprint::most_bytes;
 use crate::log::Log;
+use crate::machine::Machine;
 use crate::process::Process;
 use crate::program::{Ended, no_memory, nodes_in, read_file, say, step_fault, stream};
 use crate::stop_file::StopFile;
@@ -234,17 +235,24 @@ fn run_until<R: Files + Clock + Wait, K: Keeper, W: Observer>(
     }
 }
 
+// A server, and the sockets at which it serves. Both are lent.
+#[derive(Drop)]
+struct Listening<'a, 'b, K> {
+    serve: &'a mut Serve,
+    server: &'b mut KeptServer<K>,
+}
+
 // Serves by this server, and tells what happens.
 fn serve_and_tell<R: Files + Clock + Wait, K: Keeper, O: Write, E: Write + Process>(
     rt: &R,
-    serve: &mut Serve,
-    server: &mut KeptServer<K>,
+    listening: Listening<'_, '_, K>,
     options: &ServeOptions<'_>,
     output: &mut Tap<O>,
     errors: &mut E,
 ) -> Result<(), ServeFault>
-    ensures { ServesWith options.now serve.old (keeping K.kept server.old) (place O.contents output.old) (place O.contents output.new) result }
+    ensures { ServesWith options.now listening.entry.serve.now (keeping K.kept listening.entry.server.now) (place O.contents output.old) (place O.contents output.new) result }
 {
+    let Listening { serve, server } = listening;
     let alloc = server.allocator();
     let mut visits = Visits::new(alloc, options.quiet, options.summary);
     if options.trace {
@@ -268,29 +276,36 @@ fn serve_and_tell<R: Files + Clock + Wait, K: Keeper, O: Write, E: Write + Proce
 // The same, into a log.
 fn serve_and_log<R: Files + Clock + Wait, K: Keeper, O: Write, E: Write>(
     rt: &R,
-    serve: &mut Serve,
-    server: &mut KeptServer<K>,
+    listening: Listening<'_, '_, K>,
     options: &ServeOptions<'_>,
     output: &mut Tap<O>,
     errors: &mut E,
 ) -> Result<(), ServeFault>
-    ensures { ServesWith options.now serve.old (keeping K.kept server.old) (place O.contents output.old) (place O.contents output.new) result }
+    ensures { ServesWith options.now listening.entry.serve.now (keeping K.kept listening.entry.server.now) (place O.contents output.old) (place O.contents output.new) result }
 {
-    let mut log = Log::new(server.allocator(), rt, errors);
-    serve_and_tell(rt, serve, server, options, output, &mut log)
+    let alloc = listening.server.allocator();
+    let mut log = Log::new(alloc, rt, errors);
+    serve_and_tell(rt, listening, options, output, &mut log)
+}
+
+// What the words ask of a server, and how many seconds nothing may be sent to a socket. 0 is no bound.
+#[derive(Clone, Copy)]
+struct Asked<'a, 'b> {
+    options: &'a ServeOptions<'b>,
+    idle: u64,
 }
 
 // Serves by this server, which knows no connection.
 fn serve_on<R: Files + Net + RandomSource + Clock + Wait, K: Keeper, O: Write, E: Write>(
     rt: &R,
     server: &mut KeptServer<K>,
-    idle: u64,
-    options: &ServeOptions<'_>,
+    asked: Asked<'_, '_>,
     output: &mut Tap<O>,
     errors: &mut E,
 ) -> ExitStatus
-    ensures { ServesOn (place O.contents output.old) (place O.contents output.new) idle options.now (keeping K.kept server.old) result }
+    ensures { ServesOn (place O.contents output.old) (place O.contents output.new) asked.entry.idle asked.entry.options.now (keeping K.kept server.old) result }
 {
+    let Asked { options, idle } = asked;
     let address = options.address;
     let port = options.port;
     let alloc = server.allocator();
@@ -310,7 +325,11 @@ fn serve_on<R: Files + Net + RandomSource + Clock + Wait, K: Keeper, O: Write, E
     };
     match say(line.as_str(), output, errors) {
         ExitStatus::Done => {
-            let ran = serve_and_log(rt, &mut serve, server, options, output, errors);
+            let listening = Listening {
+                serve: &mut serve,
+                server,
+            };
+            let ran = serve_and_log(rt, listening, options, output, errors);
             served(ran, errors)
         }
         status => status,
@@ -383,12 +402,12 @@ fn stored_server<P: OpensStores, E: Write>(
     stores: &P,
     alloc: Global,
     path: &str,
-    config: Config,
-    space: Space,
+    made: (Config, Space),
     errors: &mut E,
 ) -> Result<KeptServer<P::Store>, ExitStatus>
-    ensures { MatchResult result (λ server. BeginsWithStore config space (keeping P.Store.kept server)) IsUnopened }
+    ensures { MatchResult result (λ server. BeginsWithStore made.0 made.1 (keeping P.Store.kept server)) IsUnopened }
 {
+    let (config, space) = made;
     let (store, kept) = match stores.open(alloc, path) {
         Ok(opened) => opened,
         Err(fault) => return Err(store_fault(fault, errors)),
@@ -407,17 +426,16 @@ fn stored_server<P: OpensStores, E: Write>(
 fn serve_begun<R: Files + Net + RandomSource + Clock + Wait, K: Keeper + Drop, O: Write, E: Write>(
     rt: &R,
     begun: Result<KeptServer<K>, ExitStatus>,
-    idle: u64,
-    options: &ServeOptions<'_>,
+    asked: Asked<'_, '_>,
     output: &mut Tap<O>,
     errors: &mut E,
 ) -> ExitStatus
     ensures { let old = place O.contents output.old in
         let new = place O.contents output.new in
-        MatchResult begun (λ server. ServesOn old new idle options.now (keeping K.kept server) result) (λ status. (result ≡ status) × (new ≡ old)) }
+        MatchResult begun (λ server. ServesOn old new asked.entry.idle asked.entry.options.now (keeping K.kept server) result) (λ status. (result ≡ status) × (new ≡ old)) }
 {
     match begun {
-        Ok(mut server) => serve_on(rt, &mut server, idle, options, output, errors),
+        Ok(mut server) => serve_on(rt, &mut server, asked, output, errors),
         Err(status) => status,
     }
 }
@@ -437,10 +455,13 @@ fn serve_begun<R: Files + Net + RandomSource + Clock + Wait, K: Keeper + Drop, O
 /// refuses the wait, the clock or random bytes, and `Halted` where memory ran out or the server halted. `Stream`
 /// comes where a call of the output failed: nobody is served where it isn't known that the program listens,
 /// and nobody any more where the trace can't be written. `Store` comes where the store can't be opened, or can't keep what was written.
-pub fn serve<R: Files + Net + RandomSource + Clock + Wait, P: OpensStores, O: Write, E: Write>(
-    rt: &R,
-    stores: &P,
-    alloc: Global,
+pub fn serve<
+    R: Files + AllocGlobal + Net + RandomSource + Clock + Wait,
+    P: OpensStores,
+    O: Write,
+    E: Write,
+>(
+    machine: Machine<'_, R, P>,
     made: (Config, Space),
     options: &ServeOptions<'_>,
     output: &mut Tap<O>,
@@ -448,29 +469,35 @@ pub fn serve<R: Files + Net + RandomSource + Clock + Wait, P: OpensStores, O: Wr
 ) -> ExitStatus
     ensures { ServesBy (place O.contents output.old) (place O.contents output.new) options.now made result }
 {
+    let rt = machine.rt;
+    let alloc = rt.alloc();
     let (config, space) = made;
     let idle = idle_of(config.session_time, options.idle);
     let Ok(config) = configured(alloc, config, options) else {
         return no_memory(errors);
     };
     tell_served(&config, &space, options, &mut Log::new(alloc, rt, errors));
+    let asked = Asked { options, idle };
     match options.store {
         None => {
             let begun = kept_server(alloc, config, space, NoKeeper, errors);
-            serve_begun(rt, begun, idle, options, output, errors)
+            serve_begun(rt, begun, asked, output, errors)
         }
         Some(path) => {
-            let begun = stored_server(stores, alloc, path, config, space, errors);
-            serve_begun(rt, begun, idle, options, output, errors)
+            let begun = stored_server(machine.stores, alloc, path, (config, space), errors);
+            serve_begun(rt, begun, asked, output, errors)
         }
     }
 }
 
 // `serve` of what was made.
-fn serve_made<R: Files + Net + RandomSource + Clock + Wait, P: OpensStores, O: Write, E: Write>(
-    rt: &R,
-    stores: &P,
-    alloc: Global,
+fn serve_made<
+    R: Files + AllocGlobal + Net + RandomSource + Clock + Wait,
+    P: OpensStores,
+    O: Write,
+    E: Write,
+>(
+    machine: Machine<'_, R, P>,
     made: Result<(Config, Space), ExitStatus>,
     options: &ServeOptions<'_>,
     output: &mut Tap<O>,
@@ -480,7 +507,7 @@ fn serve_made<R: Files + Net + RandomSource + Clock + Wait, P: OpensStores, O: W
         ServesMade (place O.contents output.old) (place O.contents output.new) options.now said result }
 {
     match made {
-        Ok(made) => serve(rt, stores, alloc, made, options, output, errors),
+        Ok(made) => serve(machine, made, options, output, errors),
         Err(status) => status,
     }
 }
@@ -491,14 +518,19 @@ pub(crate) fn serve_at<
     P: OpensStores,
     O: Write,
     E: Write,
->(rt: &R, stores: &P, options: &ServeOptions<'_>, output: &mut Tap<O>, errors: &mut E) -> Ended
+>(
+    machine: Machine<'_, R, P>,
+    options: &ServeOptions<'_>,
+    output: &mut Tap<O>,
+    errors: &mut E,
+) -> Ended
     ensures { ServesFile (place O.contents output.old) (place O.contents output.new) options.now result.status result.file }
 {
-    let alloc = rt.alloc();
+    let rt = machine.rt;
     match read_file(rt, options.nodes, errors) {
         Ok(file) => {
-            let made = nodes_in(alloc, file.text(), errors);
-            let status = serve_made(rt, stores, alloc, made, options, output, errors);
+            let made = nodes_in(rt.alloc(), file.text(), errors);
+            let status = serve_made(machine, made, options, output, errors);
             Ended::with_nodes(status, file)
         }
         Err(status) => Ended::by(status),

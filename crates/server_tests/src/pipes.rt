@@ -2,7 +2,7 @@
 
 use crate::bytes_due::{ACKNOWLEDGE, HELLO};
 use crate::holding::holds;
-use commands::ExitStatus;
+use commands::{ExitStatus, Machine};
 use server_core::StepFault;
 use std::alloc::Global;
 use std::fs;
@@ -25,7 +25,11 @@ fn answers<R: Files + AllocGlobal + Net + RandomSource + Clock + Wait>(
     let mut input = Tap::new(input);
     let mut output = Tap::new(Vec::new(rt.alloc()));
     let mut errors = Vec::new(rt.alloc());
-    let ended = commands::run(rt, &NoStores, words, &mut input, &mut output, &mut errors);
+    let machine = Machine {
+        rt,
+        stores: &NoStores,
+    };
+    let ended = commands::run(machine, words, &mut input, &mut output, &mut errors);
     matches!(ended.status, ExitStatus::Done)
         && errors.is_empty()
         && output.into_inner().as_slice() == due

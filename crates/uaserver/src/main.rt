@@ -4,13 +4,14 @@
 //! sockets, and `uaserver check` counts what a node file holds. `uaserver asm` prints the events of a
 //! scenario, `uaserver run` what is sent when they happen to a server, and `uaserver trace` which rows of the
 //! subscriptions' state table fire then. What a run does stands in [`commands::run_args`], over words, files,
-//! stores and streams; `main` hands it what opens a store, the words of the command line and the three
+//! stores and streams; `main` hands it the machine with what opens a store, the words of the command line and the three
 //! standard streams, and ends with its status.
 #![tactic(auto)]
 
 mod store_files;
 
 use crate::store_files::StoreFiles;
+use commands::Machine;
 use std::alloc::AllocError;
 use std::env;
 use std::io::ErrorKind;
@@ -41,9 +42,12 @@ fn main(rt: HostRuntime) -> ExitCode {
     let Ok(words) = words(&rt) else {
         return ExitCode::from(commands::no_memory(&mut errors).code());
     };
+    let machine = Machine {
+        rt: &rt,
+        stores: &stores,
+    };
     let ended = commands::run_args(
-        &rt,
-        &stores,
+        machine,
         words.as_slice(),
         &mut input,
         &mut output,

@@ -50,6 +50,7 @@ mod runs;
 mod state_table;
 
 use behind::{named, write_behind};
+use commands::Machine;
 use encoding_examples::write_encoding;
 use endings::write_end;
 use node_files::write_nodes;
@@ -85,7 +86,11 @@ fn printed<R: Files + AllocGlobal + Net + RandomSource + Clock + Wait>(
     let mut input = Tap::new(nothing);
     let mut output = Tap::new(Vec::new(rt.alloc()));
     let mut errors = Vec::new(rt.alloc());
-    let ended = commands::run(rt, &NoStores, words, &mut input, &mut output, &mut errors);
+    let machine = Machine {
+        rt,
+        stores: &NoStores,
+    };
+    let ended = commands::run(machine, words, &mut input, &mut output, &mut errors);
     let mut all = output.into_inner();
     write_end(ended.status, errors.as_slice(), &mut all)?;
     Ok(all)

@@ -3,14 +3,13 @@ use Rattle.server_core.specs.World.{world_of}
 use Rattle.stream_server.specs.Pumped as pump
 use Rattle.stream_server.specs.Pumped.{State, scene}
 use Rattle.commands.specs.Commands.{Pipes}
-use Rattle.commands.specs.NodeFiles.{Made}
 use Rattle.commands.specs.declared.exit_status.ExitStatus.{ExitStatus}
 use Rattle.commands.proofs.PipeLemmas.{piped}
 use Rattle.commands.proofs.program.pipe.Goals as goal
 
 pub returns : goal.returns
 returns g c =
-    let made : Made = (c.args.config, c.args.space) in
+    let made = c.args.made in
     let remaining = g.I.Read.remaining in
     let contents = g.O.Write.contents in
     let input = c.args.input.now in

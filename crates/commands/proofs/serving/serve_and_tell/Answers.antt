@@ -13,7 +13,7 @@ use Rattle.commands.proofs.serving.serve_and_tell.Goals as goal
 pub returns-then-options : goal.returns-then-options
 returns-then-options g c =
     let contents = g.O.Write.contents in
-    let first = keeping g.K.Keeper.kept c.args.server.now in
+    let first = keeping g.K.Keeper.kept c.args.listening.server.now in
     let o = c.args.options.now in
     let asks = is_some o.stop_file in
     let old = place contents c.args.output.now in
@@ -22,19 +22,19 @@ returns-then-options g c =
     let kept = run_writer unknown unknown uncounted rows_text asks o.turns _ _ c.run_until.result c.run_until.ensures in
     let last : c.output-1.given.0 ≡ c.run_until.new.observer.output.now = c.output-1.given.1 (sym kept) in
     let went =
-    ran rows_text first first (keeping g.K.Keeper.kept c.run_until.new.server) c.args.serve.now c.run_until.new.serve (output_at _ old) (output_at w' new) asks o.turns c.run_until.result
+    ran rows_text first first (keeping g.K.Keeper.kept c.run_until.new.server) c.args.listening.serve.now c.run_until.new.serve (output_at _ old) (output_at w' new) asks o.turns c.run_until.result
     refl c.run_until.ensures
     in
-    subst (λ (p : Tapped g.row.O.Denot). ServesWith o c.args.serve.now first old (place contents p) c.run_until.result) (sym last)
-    (served_with o c.args.serve.now first old new c.if-options.true _ w' c.run_until.result kept went)
+    subst (λ (p : Tapped g.row.O.Denot). ServesWith o c.args.listening.serve.now first old (place contents p) c.run_until.result) (sym last)
+    (served_with o c.args.listening.serve.now first old new c.if-options.true _ w' c.run_until.result kept went)
 
 pub returns : goal.returns
 returns g c =
-    let first = keeping g.K.Keeper.kept c.args.server.now in
+    let first = keeping g.K.Keeper.kept c.args.listening.server.now in
     let o = c.args.options.now in
     let at = place g.O.Write.contents c.args.output.now in
     let went =
-    ran (text_of false) first first (keeping g.K.Keeper.kept c.run_until-else-options.new.server) c.args.serve.now c.run_until-else-options.new.serve no_output no_output (is_some o.stop_file) o.turns
+    ran (text_of false) first first (keeping g.K.Keeper.kept c.run_until-else-options.new.server) c.args.listening.serve.now c.run_until-else-options.new.serve no_output no_output (is_some o.stop_file) o.turns
     c.run_until-else-options.result refl c.run_until-else-options.ensures
     in
-    served_without o c.args.serve.now first at at c.if-options.false c.run_until-else-options.result refl went
+    served_without o c.args.listening.serve.now first at at c.if-options.false c.run_until-else-options.result refl went
