@@ -139,7 +139,9 @@ impl Server {
             None => None,
             Some(world) => {
                 let services = &world.core.services;
-                services.subscriptions.vars(SubscriptionId(number), &services.items)
+                services
+                    .subscriptions
+                    .vars(SubscriptionId(number), &services.items)
             }
         }
     }

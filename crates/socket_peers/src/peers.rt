@@ -5,8 +5,8 @@ ghost use Rattle.std.specs.FinMap as map;
 ghost use Rattle.socket_peers.specs.Peers.{nobody, number_after, with_joined, without, at_time, is_crowded as is_crowded_spec, is_sweep_due as is_sweep_due_spec, swept_now, is_owed_at, numbers_of, listed_if, woken_if, reported, owed_out, owed_all, Departs, LetsGo, Expires, ReadsAt, LosesAt, FlushesAt, LooksAt, FlushesAll};
 
 use crate::end::End;
-use crate::peer_limits::PeerLimits;
 use crate::peer::{Heard, Peer, Readiness};
+use crate::peer_limits::PeerLimits;
 use crate::socket::Socket;
 use crate::tally::Tally;
 use collections::{Numbered, ShortList};

@@ -70,7 +70,9 @@ impl<'a> SessionService<'a> for CreateSubscription {
             clock: setting.clock,
         };
         let items = &mut services.items;
-        let answered = services.subscriptions.create(items, requester, settings, enabled)?;
+        let answered = services
+            .subscriptions
+            .create(items, requester, settings, enabled)?;
         let (answer, others) = apart(alloc, answered);
         let body = answer_body(alloc, setting, caller, answer)?;
         Ok(reply_first(alloc, caller, body, others)?)

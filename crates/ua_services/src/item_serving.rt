@@ -100,7 +100,9 @@ fn answer_items(
 {
     let alloc = services.allocator();
     let items = &mut services.items;
-    let answered = services.subscriptions.items(items, setting.clock, number, before)?;
+    let answered = services
+        .subscriptions
+        .items(items, setting.clock, number, before)?;
     Ok(reply_first(alloc, caller, body, served_alone(alloc, answered))?)
 }
 

@@ -40,7 +40,9 @@ impl<'a> SessionService<'a> for SetPublishingMode {
             clock: setting.clock,
         };
         let items = &mut services.items;
-        let answered = services.subscriptions.set_mode(items, requester, numbers, enabled)?;
+        let answered = services
+            .subscriptions
+            .set_mode(items, requester, numbers, enabled)?;
         let (statuses, others) = apart(alloc, answered);
         let type_id = type_ids::SET_PUBLISHING_MODE_RESPONSE;
         let body = statuses_body(alloc, type_id, setting, caller, statuses.as_slice())?;
