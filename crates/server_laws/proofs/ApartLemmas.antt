@@ -115,7 +115,7 @@ record KeepsRest (session : ℕ) (before after : Services) : Type 0 where
 -- by a Write, whose accepted values are these
 record KeepsShown (session : ℕ) (changed : List Change) (before after : Services) : Type 0 where
   sessions : Keeps session before.sessions after.sessions
-  subs : after.subscriptions ≡ before.subscriptions
+  subscriptions : after.subscriptions ≡ before.subscriptions
   items : after.items ≡ sampled before.items changed
 
 none_shown : (session : ℕ) (state : Services) (sessions : SessionsState) → Keeps session state.sessions sessions → KeepsShown session [] state (with_sessions state sessions)
